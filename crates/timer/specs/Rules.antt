@@ -1,7 +1,7 @@
 -- The section "Timer" of document 01, a definition for each rule, in its order and its words.
 use Prim.Native.Nat.{ℕ, _+_, _-_, _*_, _/_, _%_}
 use mathlib.Core.Bool.{Bool, true, false, not, cond, _&&_, _||_}
-use lib.Dec.{eqb}
+use lib.Dec.{eqb, leb}
 use Rattle.timer.specs.declared.Timer.{Timer}
 use Rattle.timer.specs.declared.Setting.{Setting}
 use Rattle.timer.specs.declared.Mode.{Mode}
@@ -211,3 +211,7 @@ resetState control gate clock = record {
   gate = gate;
   clock = clock;
 }
+
+-- Ranges for 9: each prescaler 0 to 7.
+abbrev pub fits : Timer → Bool
+fits t = leb (t .divider) 7

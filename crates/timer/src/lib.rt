@@ -2,7 +2,7 @@
 ghost use mathlib.Core.Path.{_≡_};
 ghost use mathlib.Core.Bool.{_&&_, not, true, false};
 ghost use Rattle.timer.specs.Fields.{msb, lsb, withDivider, withLevel, withRunning, withMarks, withInputs};
-ghost use Rattle.timer.specs.Rules.{modeOf, ticks, dividerAfter, passes, held, settled, initialised, started, caught, written, latchWritten, fell, loads, rose, gated, enabled, fallen, shaped, lastRow, levelAfter, timedOut, countedDown, edged, reaches, freeCycle, cycleOf, pinOf, controlWritten, armedBy, msbRead, asks, resetState};
+ghost use Rattle.timer.specs.Rules.{modeOf, ticks, dividerAfter, passes, held, settled, initialised, started, caught, written, latchWritten, fell, loads, rose, gated, enabled, fallen, shaped, lastRow, levelAfter, timedOut, countedDown, edged, reaches, freeCycle, cycleOf, pinOf, controlWritten, armedBy, msbRead, asks, resetState, fits};
 
 // What a timer keeps from cycle to cycle.
 #[repr(C)]
@@ -506,6 +506,13 @@ impl Timer {
         ensures { λ r. ⌜ r ≡ asks self ⌝ }
     {
         self.flag & (self.control / 64 % 2 == 1)
+    }
+
+    // The divider stands where it can: 0 to 7.
+    pub fn in_range(self) -> bool
+        ensures { λ r. ⌜ r ≡ fits self ⌝ }
+    {
+        self.divider <= 7
     }
 
     pub fn pin(self, s: Setting) -> bool
