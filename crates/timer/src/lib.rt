@@ -1,7 +1,7 @@
 // One programmable timer, as the MC6846 has one and the MC6840 three.
 ghost use mathlib.Core.Path.{_≡_};
 ghost use mathlib.Core.Bool.{_&&_, not, true, false};
-ghost use Rattle.timer.specs.Fields.{msb, lsb, withDivider, withLevel, withRunning, withMarks, withInputs};
+ghost use Rattle.timer.specs.Fields.{msb, lsb, withDivider, withFlag, withLevel, withRunning, withMarks, withInputs};
 ghost use Rattle.timer.specs.Rules.{modeOf, ticks, dividerAfter, passes, held, settled, initialised, started, caught, written, latchWritten, fell, loads, rose, gated, enabled, fallen, shaped, lastRow, levelAfter, timedOut, countedDown, edged, reaches, freeCycle, cycleOf, pinOf, controlWritten, armedBy, msbRead, asks, resetState, fits};
 
 // What a timer keeps from cycle to cycle.
@@ -389,32 +389,36 @@ impl Timer {
         self.free_cycle(s, mode_of(s, self.control), gate, clock)
     }
 
-    fn take_latch(mut self, mode: Mode) -> Timer
+    // 000, and 001 on the 6840, begin anew with the latch; 010 and 011 do not.
+    fn load_by_write(self) -> Timer
+        ensures { λ r. ⌜ r ≡ written Mode.Continuous self ⌝ }
+    {
+        if self.control / 16 % 2 == 1 {
+            return self;
+        }
+        self.initialise()
+    }
+
+    fn cancel(mut self) -> Timer
+        ensures { λ r. ⌜ r ≡ withRunning false (withFlag false false self) ⌝ }
+    {
+        self.flag = false;
+        self.armed = false;
+        self.running = false;
+        self
+    }
+
+    fn take_latch(self, mode: Mode) -> Timer
         ensures { λ r. ⌜ r ≡ written mode self ⌝ }
     {
         match mode {
+            Mode::Continuous => self.load_by_write(),
+            Mode::SingleShot => self.load_by_write(),
             Mode::Cascaded => self,
             Mode::Interval {
                 pulse: _,
                 greater: _,
-            } => {
-                self.flag = false;
-                self.armed = false;
-                self.running = false;
-                self
-            }
-            Mode::Continuous => {
-                if self.control / 16 % 2 == 1 {
-                    return self;
-                }
-                self.initialise()
-            }
-            Mode::SingleShot => {
-                if self.control / 16 % 2 == 1 {
-                    return self;
-                }
-                self.initialise()
-            }
+            } => self.cancel(),
         }
     }
 
