@@ -1,0 +1,20 @@
+-- `board::events::take_6840` meets its contract: each answer follows from the tests and calls on its way. Assumes nothing.
+use borrow.Author.Needs.{needs}
+use Rattle.board.specs.Events.{taken6840}
+use Rattle.board.proofs.events.take_6840.Statement.{statement}
+use Rattle.board.proofs.events.take_6840.Tie as tie
+
+returns : tie.Need-returns
+unfolding taken6840
+returns c = simp (c .if1 .taken, c .before .before .event .given .1)
+
+returns-2 : tie.Need-returns-2
+unfolding taken6840
+returns-2 c = simp (c .none .ensures, c .before .if1 .left, c .before .before .before .event .given .1)
+
+returns-3 : tie.Need-returns-3
+unfolding taken6840
+returns-3 c = simp (c .enum-told .given .1)
+
+pub take-6840-spec : {M : Type 1} → statement M
+take-6840-spec = tie.close (tie.spec (search needs) returns (search needs) (search needs) returns-2 returns-3)

@@ -1,0 +1,12 @@
+-- `mc6840::Ptm::start` meets its contract: each answer follows from the tests and calls on its way. Assumes nothing.
+use borrow.Author.Needs.{needs}
+use Rattle.mc6840.specs.Rules.{startOf}
+use Rattle.mc6840.proofs.Ptm.start.Statement.{statement}
+use Rattle.mc6840.proofs.Ptm.start.Tie as tie
+
+returns : tie.Need-returns
+unfolding startOf
+returns c = simp (c .reset .ensures, c .before .high .ensures)
+
+pub start-spec : {M : Type 1} → statement M
+start-spec = tie.close (tie.spec (search needs) (search needs) returns)

@@ -1,0 +1,80 @@
+-- The section "One cycle" of document 01, for the 6846.
+use Prim.Native.Nat.{ℕ, _%_}
+use mathlib.Core.Bool.{Bool, true, false, cond}
+use mathlib.Core.List.{List}
+use lib.ListN.{getD}
+use Rattle.timer.specs.Rules.{resetState, pinOf, fits}
+use Rattle.timer.specs.Rules as timer
+use Rattle.mc6846.specs.declared.Combo.{Combo}
+use Rattle.mc6846.specs.declared.Levels.{Levels}
+use Rattle.mc6846.specs.declared.Access.{Access}
+use Rattle.mc6846.specs.declared.Select.{Select}
+use Rattle.mc6846.specs.declared.Done.{Done}
+use Rattle.mc6846.specs.Fields.{withTimer, done}
+use Rattle.mc6846.specs.Events.{highLevels}
+use Rattle.mc6846.specs.Port.{capturing, flagged, acknowledged, sampled}
+use Rattle.mc6846.specs.Registers.{settingOf, romChosen, ioChosen, registerByte, afterRead, afterWrite}
+
+-- Reset state: TCR0 = 1, PCR = 128, everything else 0.
+unfoldable pub resetOf : Levels → Combo
+resetOf l = record {
+  timer = resetState 1 (l .gate) (l .clock);
+  msb = 0;
+  lsb = 0;
+  pcr = 128;
+  ddr = 0;
+  pdr = 0;
+  capture = 0;
+  pins = l .pins;
+  flag1 = false;
+  armed1 = false;
+  flag2 = false;
+  armed2 = false;
+  captured = false;
+  touched = false;
+  strobed = false;
+  raised = false;
+  cp1 = l .cp1;
+  cp2 = l .cp2;
+}
+
+-- Start leaves the reset state. An edge compares with the previous cycle's level (high at start).
+abbrev pub startOf : Combo
+startOf = resetOf highLevels
+
+-- Gate and CP edges: those of CP1 and CP2.
+unfoldable pub edged : Levels → Combo → Combo
+edged l c = sampled l (acknowledged (flagged l (capturing l c)))
+
+-- The timer's gate edges and clocks.
+unfoldable pub clocked : Levels → Combo → Combo
+clocked l c = withTimer (timer.cycleOf (settingOf (c .timer)) (l .gate) (l .clock) (c .timer)) c
+
+-- The byte read, or 256 if nothing was driven. ROM needs its code, for reads only.
+unfoldable pub readBy : Select → List ℕ → Access → Combo → Done
+readBy s rom a c =
+    cond (romChosen s a) (done c (getD rom (a .address) 0))
+    (cond (ioChosen s a) (done (afterRead (a .address % 8) c) (registerByte (a .address % 8) c)) (done c 256))
+
+unfoldable pub writtenBy : Select → Access → Combo → Done
+writtenBy s a c = cond (ioChosen s a) (done (afterWrite (a .address % 8) (a .byte) c) 256) (done c 256)
+
+-- Bus access.
+unfoldable pub accessed : Select → List ℕ → Access → Combo → Done
+accessed s rom a c = cond (a .present) (cond (a .read) (readBy s rom a c) (writtenBy s a c)) (done c 256)
+
+-- RESET low gives the reset state. ROM and register reads answer from it with no side effect; writes do nothing.
+unfoldable pub resetCycle : Select → List ℕ → Levels → Access → Done
+resetCycle s rom l a = done (resetOf l) (accessed s rom a (resetOf l) .answer)
+
+-- Order: sample levels; RESET; gate and CP edges; clocks; bus access; output levels.
+unfoldable pub cycleOf : Select → List ℕ → Levels → Access → Combo → Done
+cycleOf s rom l a c = cond (l .reset) (accessed s rom a (clocked l (edged l c))) (resetCycle s rom l a)
+
+-- The report gives CTO.
+unfoldable pub ctoOf : Combo → Bool
+ctoOf c = pinOf (settingOf (c .timer)) (c .timer)
+
+-- Ranges for 9: each prescaler 0 to 7.
+unfoldable pub inRange : Combo → Bool
+inRange c = fits (c .timer)

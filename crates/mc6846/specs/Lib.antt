@@ -1,0 +1,5 @@
+pub mod Fields
+pub mod Events
+pub mod Port
+pub mod Registers
+pub mod Cycle

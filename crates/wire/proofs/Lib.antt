@@ -1,0 +1,10 @@
+pub mod Ring
+pub mod Order
+pub mod Lead
+pub mod Wrap
+pub mod Changes
+pub mod Cycle
+pub mod Calls
+pub mod Reached
+pub mod Progress
+pub mod Table

@@ -1,0 +1,5 @@
+pub mod Stamp
+pub mod Order
+pub mod Book
+pub mod Pair
+pub mod Lockstep
