@@ -14,7 +14,7 @@ module _ {W : Type 0} (goes : W → Bool) (step : W → W) where
   run-stopped (suc n) w e = rw e
 
   -- one cycle of a run that goes on
-  run-one : (n : ℕ) (w : W) → goes w ≡ true → run goes step (suc n) w ≡ run goes step n (step w)
+  pub run-one : (n : ℕ) (w : W) → goes w ≡ true → run goes step (suc n) w ≡ run goes step n (step w)
   unfolding run
   run-one n w e = rw e
 

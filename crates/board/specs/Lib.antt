@@ -5,3 +5,4 @@ pub mod Cycle6846
 pub mod Cycle6840
 pub mod Record
 pub mod Calls
+pub mod Agreement

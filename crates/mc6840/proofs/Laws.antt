@@ -1,8 +1,8 @@
 -- What the board cites of the chip, so that it unfolds no rule.
-use Prim.Native.Nat.{ℕ, _+_, _*_}
-use mathlib.Core.Path.{_≡_, refl, ap}
+use Prim.Native.Nat.{ℕ}
+use mathlib.Core.Path.{_≡_, refl}
 use mathlib.Core.Bool.{Bool, true, false, cond, _&&_}
-use mathlib.Core.List.{List, [], _∷_}
+use mathlib.Core.List.{[], _∷_}
 use lib.Dec.{eqb}
 use lib.ListN.{length}
 use Rattle.timer.specs.declared.Timer.{Timer}
@@ -15,7 +15,7 @@ use Rattle.mc6840.specs.declared.Access.{Access}
 use Rattle.mc6840.specs.declared.Done.{Done}
 use Rattle.mc6840.specs.Fields.{timerAt, withC1, withC2, withC3, done}
 use Rattle.mc6840.specs.Events.{wiredOf}
-use Rattle.mc6840.specs.Rules.{settingAt, resetOf, startOf, clocked, armedAll, msbReadAt, afterRead, controlAt, latchAt, controlZero, stored, settledAll, accessed, underReset, cycleOf, inRange}
+use Rattle.mc6840.specs.Rules.{resetOf, startOf, clocked, armedAll, msbReadAt, afterRead, controlAt, latchAt, controlZero, stored, settledAll, accessed, underReset, cycleOf, inRange}
 
 -- What RESET leaves: with RESET low the chip after the cycle is the reset state with its levels, whatever it was.
 pub reset-leaves : (l : Levels) (a : Access) (p : Ptm) → l .reset ≡ false → cycleOf l a p .chip ≡ resetOf l
@@ -35,7 +35,11 @@ quiet-answer l a p k = by (l .reset)
     by true = rw k
     by false = rw k
 
--- A wired input's own bit does not matter.
+-- Without a wire the levels are the list's; a wired input's own bit does not matter.
+pub wired-none : (level : Bool) (l : Levels) → wiredOf 0 level l ≡ l
+unfolding wiredOf
+wired-none level l = refl
+
 pub wired-1 : (level own : Bool) (l : Levels) → wiredOf 1 level (withC1 own l) ≡ wiredOf 1 level l
 unfolding wiredOf
 wired-1 level own l = refl

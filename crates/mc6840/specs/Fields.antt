@@ -1,6 +1,6 @@
 -- Plumbing: a timer of the three, and a chip or its levels with a part changed.
 use Prim.Native.Nat.{ℕ}
-use mathlib.Core.Bool.{Bool, true, false}
+use mathlib.Core.Bool.{Bool, false}
 use lib.ListN.{getD, set}
 use Rattle.timer.specs.declared.Timer.{Timer}
 use Rattle.mc6840.specs.declared.Ptm.{Ptm}

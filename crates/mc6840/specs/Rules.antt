@@ -1,7 +1,7 @@
 -- The sections "One cycle" and "Registers" of document 01, for the 6840, a definition for each rule, in its words.
 use Prim.Native.Nat.{ℕ, _+_, _*_}
-use mathlib.Core.Bool.{Bool, true, false, cond, _&&_, _||_}
-use mathlib.Core.List.{List, [], _∷_}
+use mathlib.Core.Bool.{Bool, false, cond, _&&_, _||_}
+use mathlib.Core.List.{[], _∷_}
 use lib.Dec.{eqb}
 use Rattle.timer.specs.declared.Setting.{Setting}
 use Rattle.timer.specs.Fields.{bit, msb as upper, lsb as lower}

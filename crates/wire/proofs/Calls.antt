@@ -1,13 +1,10 @@
 -- What holds of a call on any board: how it is resumed, and what it moves.
 use Prim.Native.Nat.{ℕ, zero, suc, _+_, _%_, _^_, _<_}
 use mathlib.Core.Path.{_≡_, refl, ap, _∙_}
-use mathlib.Core.Bool.{Bool, true, false, cond, _&&_}
+use mathlib.Core.Bool.{Bool, true, false}
 use native.Mathlib.Omega.{arith}
 use native.Mathlib.Nat.{zero-add, suc-add}
-use lib.ListN.{length}
-use lib.Dec.{leb}
-use Rattle.wire.specs.Stamp.{driverWaits, listenerWaits}
-use Rattle.wire.specs.Pair.{Pair, Board, Chip, Stop, Cycled, Called, numberOf, turns, driven, listened, cycle, goesOn, called}
+use Rattle.wire.specs.Pair.{Pair, Board, Chip, Stop, Cycled, numberOf, driven, listened, stopIf, cycle, goesOn, called, plus}
 
 -- a stop has a number, which is not 0
 stop-number : (s : Stop) → numberOf s ≡ 0 → ⊥
@@ -28,18 +25,14 @@ module _ (P : Pair) where
       go (Cycled.done v) f e = ap suc (f v e)
       go (Cycled.refused s) f e = absurd (stop-number s e)
 
-  -- a call to which n cycles that went before are counted
-  abbrev pub plus : ℕ → Called P → Called P
-  plus n r = record { board = r .board; number = r .number; count = n + r .count }
-
   -- A call of m + n cycles whose first m are done goes on as a call of n cycles would.
-  pub resumed : (c : Chip) (m n : ℕ) (w : Board P) → called P c m w .number ≡ 0 → called P c (m + n) w ≡ plus m (called P c n (called P c m w .board))
+  pub resumed : (c : Chip) (m n : ℕ) (w : Board P) → called P c m w .number ≡ 0 → called P c (m + n) w ≡ plus P m (called P c n (called P c m w .board))
   unfolding called goesOn
   resumed c zero n w e = simp zero-add
   resumed c (suc m) n w e = rw (suc-add m n) (go (cycle P c w) (resumed c m n) e)
     where
-      go : (x : Cycled P) → ((v : Board P) → called P c m v .number ≡ 0 → called P c (m + n) v ≡ plus m (called P c n (called P c m v .board))) →
-          let y = goesOn P (called P c m) w x in y .number ≡ 0 → goesOn P (called P c (m + n)) w x ≡ plus (suc m) (called P c n (y .board))
+      go : (x : Cycled P) → ((v : Board P) → called P c m v .number ≡ 0 → called P c (m + n) v ≡ plus P m (called P c n (called P c m v .board))) →
+          let y = goesOn P (called P c m) w x in y .number ≡ 0 → goesOn P (called P c (m + n)) w x ≡ plus P (suc m) (called P c n (y .board))
       go (Cycled.done v) f e = rw (f v e) (simp suc-add)
       go (Cycled.refused s) f e = absurd (stop-number s e)
 
@@ -95,21 +88,16 @@ module _ (P : Pair) where
   Stepped c w (Cycled.done v) = Moved c 1 w v
   Stepped c w (Cycled.refused s) = Unit {0}
 
+  -- a test that stops
+  unless : (c : Chip) (w : Board P) (t : Bool) (s : Stop) (x : Cycled P) → Stepped c w x → Stepped c w (stopIf P t s x)
+  unfolding stopIf
+  unless c w true s x m = tt
+  unless c w false s x m = m
+
   stepped : (c : Chip) (w : Board P) → Stepped c w (cycle P c w)
   unfolding cycle driven listened
-  stepped Chip.driver w = go (P .driverBad (w .driverStamp) (w .driver)) (driverWaits (w .listenerStamp) (w .driverStamp)) (turns P w && leb 64 (length (w .book)))
-    where
-      go : (x y z : Bool) → Stepped Chip.driver w (cond x (Cycled.refused Stop.bad) (cond y (Cycled.refused Stop.waits) (cond z (Cycled.refused Stop.full) (Cycled.done (driven P w)))))
-      go true y z = tt
-      go false true z = tt
-      go false false true = tt
-      go false false false = (refl, refl, refl)
-  stepped Chip.listener w = go (P .listenerBad (w .listenerStamp) (w .listener)) (listenerWaits (w .listenerStamp) (w .driverStamp) (P .wired))
-    where
-      go : (x y : Bool) → Stepped Chip.listener w (cond x (Cycled.refused Stop.bad) (cond y (Cycled.refused Stop.waits) (Cycled.done (listened P w))))
-      go true y = tt
-      go false true = tt
-      go false false = (refl, refl, refl)
+  stepped Chip.driver w = unless _ w _ _ _ (unless _ w _ _ _ (unless _ w _ _ (Cycled.done (driven P w)) (refl, refl, refl)))
+  stepped Chip.listener w = unless _ w _ _ _ (unless _ w _ _ (Cycled.done (listened P w)) (refl, refl, refl))
 
   moved : (c : Chip) (n : ℕ) (w : Board P) → Fits c w → let r = called P c n w in Moved c (r .count) w (r .board)
   unfolding called goesOn

@@ -2,14 +2,14 @@
 -- the board of the next counts. The stamps and the book are gone from what the theorems are proved of.
 use Prim.Native.Nat.{ℕ, suc, _+_, _-_, _<_}
 use mathlib.Core.Path.{_≡_, refl}
-use mathlib.Core.Bool.{Bool, true, false, xor, cond, _&&_, and-false}
+use mathlib.Core.Bool.{Bool, true, false, xor, _&&_, and-false}
 use native.Mathlib.Omega.{arith}
 use lib.ListN.{length}
 use lib.Dec.{leb}
 use borrow.Author.Tests.{leb-false, le-leb}
 use Rattle.wire.specs.Stamp.{driverLimit, listenerLimit, driverWaits, listenerWaits}
 use Rattle.wire.specs.Order.{turned, heardOf}
-use Rattle.wire.specs.Pair.{Pair, Chip, Stop, Cycled, level, fresh, turns, driven, listened, cycle}
+use Rattle.wire.specs.Pair.{Pair, Chip, Stop, Cycled, level, fresh, turns, driven, listened, stopIf, cycle}
 use Rattle.wire.specs.Lockstep.{stampAt, driverAt, listenerAt, changes, changesIn, boardAt, Allowed}
 use Rattle.wire.proofs.Wrap.{stamp-next, limit-bounds, driver-waits-is, listener-waits-is}
 use Rattle.wire.proofs.Changes.{later-short, noted-short, changes-later, changes-undone, level-unwired, none-unwired}
@@ -53,9 +53,9 @@ module _ (P : Pair) where
 
     -- the driver's rule, in terms of the counts
     pub driver-cycle : cycle P Chip.driver (boardAt P a b) ≡
-        cond (P .driverBad (stampAt (P .start) a) (driverAt P a)) (Cycled.refused Stop.bad)
-        (cond (leb (b + driverLimit) a) (Cycled.refused Stop.waits)
-        (cond (changes P a && leb 64 (length (changesIn P b a))) (Cycled.refused Stop.full) (Cycled.done (boardAt P (suc a) b))))
+        stopIf P (P .driverBad (stampAt (P .start) a) (driverAt P a)) Stop.bad
+        (stopIf P (leb (b + driverLimit) a) Stop.waits
+        (stopIf P (changes P a && leb 64 (length (changesIn P b a))) Stop.full (Cycled.done (boardAt P (suc a) b))))
     unfolding cycle boardAt
     driver-cycle = rw (driver-waits, turns-is, driven-is _ refl)
 
@@ -81,15 +81,15 @@ module _ (P : Pair) where
 
     -- the listener's rule, in terms of the counts
     listener-by : (t : Bool) → leb (a + limit) b ≡ t → cycle P Chip.listener (boardAt P a b) ≡
-        cond (P .listenerBad (stampAt (P .start) b) (listenerAt P b)) (Cycled.refused Stop.bad)
-        (cond t (Cycled.refused Stop.waits) (Cycled.done (boardAt P a (suc b))))
-    unfolding cycle boardAt
+        stopIf P (P .listenerBad (stampAt (P .start) b) (listenerAt P b)) Stop.bad
+        (stopIf P t Stop.waits (Cycled.done (boardAt P a (suc b))))
+    unfolding cycle boardAt stopIf
     listener-by true e = rw (listener-waits, e)
     listener-by false e = rw (listener-waits, e, listened-is (leb-false _ _ e))
 
     pub listener-cycle : cycle P Chip.listener (boardAt P a b) ≡
-        cond (P .listenerBad (stampAt (P .start) b) (listenerAt P b)) (Cycled.refused Stop.bad)
-        (cond (leb (a + listenerLimit (P .wired)) b) (Cycled.refused Stop.waits) (Cycled.done (boardAt P a (suc b))))
+        stopIf P (P .listenerBad (stampAt (P .start) b) (listenerAt P b)) Stop.bad
+        (stopIf P (leb (a + listenerLimit (P .wired)) b) Stop.waits (Cycled.done (boardAt P a (suc b))))
     listener-cycle = listener-by _ refl
 
     -- what it does not refuse is allowed

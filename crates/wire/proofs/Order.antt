@@ -4,14 +4,14 @@ use mathlib.Core.Path.{_≡_, refl}
 use mathlib.Core.Bool.{Bool, true, false, _&&_, and-false, false≢true}
 use mathlib.Core.List.{List, [], _∷_}
 use native.Mathlib.Omega.{arith}
-use lib.ListN.{getD}
+use lib.ListN.{length, getD}
 use lib.Dec.{leb, ltb}
 use borrow.Author.Tests.{leb-true, le-leb, lt-leb, lt-ltb, le-ltb, ne-eqb}
 use Rattle.wire.specs.declared.book.Ends.{Ends}
 use Rattle.wire.specs.Stamp.{gap}
 use Rattle.wire.specs.Order.{laterThan, spanOf, rising, inOrder, later}
-use Rattle.wire.specs.Book.{entries, inOrderAt}
-use Rattle.wire.proofs.Ring.{entries-around}
+use Rattle.wire.specs.Book.{entries, waitingOf, inOrderAt}
+use Rattle.wire.proofs.Ring.{entries-around, waiting-length}
 
 -- the whole book, from the oldest change's place in the ring
 pub in-order-from : (places : List ℕ) (ends : Ends) (listener driver end : ℕ) → ends .waiting ≤ 64 → end ≡ spanOf listener driver →
@@ -79,3 +79,9 @@ later-is listener driver [] h t = refl
 later-is listener driver (e ∷ es) h t =
     let f = both (leb 0 (gap listener e)) _ t in
     rw (rising-later listener (gap listener e + 1) (spanOf listener driver) es h (omega arith) (both (ltb (gap listener e) (spanOf listener driver)) _ (f .1) .1))
+
+-- a ring that holds no more than 64 changes, in order, is in order
+pub in-order-at : (places : List ℕ) (ends : Ends) (listener driver : ℕ) → length (waitingOf places ends) ≤ 64 → inOrder listener driver (waitingOf places ends) ≡ true →
+    inOrderAt places ends listener driver ≡ true
+unfolding inOrderAt
+in-order-at places ends listener driver h e = rw (le-leb (ends .waiting) 64 (rw (waiting-length places ends) at h), e)

@@ -8,7 +8,7 @@ use native.Mathlib.Nat.{add-zero, zero-add}
 use lib.Dec.{leb}
 use borrow.Author.Tests.{leb-true, leb-false, lt-leb}
 use Rattle.wire.specs.Stamp.{driverLimit, listenerLimit}
-use Rattle.wire.specs.Pair.{Pair, Board, Chip, Call, Cycled, Called, fresh, cycle, goesOn, called, run}
+use Rattle.wire.specs.Pair.{Pair, Board, Chip, Call, Cycled, Called, fresh, stopIf, cycle, goesOn, called, run}
 use Rattle.wire.specs.Lockstep.{rounds, changes, boardAt, Allowed, Good}
 use Rattle.wire.proofs.Wrap.{limit-bounds}
 use Rattle.wire.proofs.Changes.{changes-none}
@@ -19,9 +19,11 @@ module _ (P : Pair) (good : Good P) where
   module _ (a b : ℕ) (m : Allowed P a b) where
     -- the chip that is behind is not refused
     driver-goes : a < b → cycle P Chip.driver (boardAt P a b) ≡ Cycled.done (boardAt P (suc a) b)
+    unfolding stopIf
     driver-goes h = rw (driver-cycle P a b m, good .driver a, lt-leb (b + driverLimit) a (omega arith), changes-none P b a h, and-false (changes P a))
 
     listener-goes : b ≤ a → cycle P Chip.listener (boardAt P a b) ≡ Cycled.done (boardAt P a (suc b))
+    unfolding stopIf
     listener-goes h = rw (listener-cycle P a b m, good .listener b, lt-leb (a + listenerLimit (P .wired)) b (omega (arith, limit-bounds (P .wired))))
 
     -- and its cycle leads to counts that the rules allow

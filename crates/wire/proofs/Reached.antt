@@ -1,15 +1,12 @@
 -- Whatever the calls, the chips are where lockstep has them.
 use Prim.Native.Nat.{ℕ, zero, suc, _+_}
 use mathlib.Core.Path.{_≡_, refl, sym, _∙_}
-use mathlib.Core.Bool.{Bool, true, false, cond, _&&_}
+use mathlib.Core.Bool.{Bool, true, false}
 use mathlib.Core.List.{List, [], _∷_}
 use native.Mathlib.Omega.{arith}
-use lib.ListN.{length}
-use lib.Dec.{leb}
 use borrow.Author.Tests.{leb-false}
-use Rattle.wire.specs.Stamp.{driverLimit, listenerLimit}
-use Rattle.wire.specs.Pair.{Pair, Board, Chip, Call, Stop, Cycled, ofDriver, ofListener, fresh, cycle, goesOn, called, run, driverDone, listenerDone}
-use Rattle.wire.specs.Lockstep.{stampAt, driverAt, listenerAt, changes, changesIn, boardAt, Allowed, Agrees, InRange}
+use Rattle.wire.specs.Pair.{Pair, Board, Chip, Call, Stop, Cycled, ofDriver, ofListener, fresh, stopIf, cycle, goesOn, called, run, driverDone, listenerDone}
+use Rattle.wire.specs.Lockstep.{driverAt, listenerAt, boardAt, Allowed, Agrees, InRange}
 use Rattle.wire.proofs.Wrap.{stamp-one, limit-bounds, in-reach-is}
 use Rattle.wire.proofs.Changes.{none-unwired, changes-in-order}
 use Rattle.wire.proofs.Calls.{all-done}
@@ -37,8 +34,9 @@ module _ (P : Pair) where
     Kept (Cycled.done w) = Gone c a b 1 w
     Kept (Cycled.refused s) = Unit {0}
 
-    -- a test that refuses
-    unless : (t : Bool) (s : Stop) (x : Cycled P) → (t ≡ false → Kept x) → Kept (cond t (Cycled.refused s) x)
+    -- a test that stops
+    unless : (t : Bool) (s : Stop) (x : Cycled P) → (t ≡ false → Kept x) → Kept (stopIf P t s x)
+    unfolding stopIf
     unless true s x f = tt
     unless false s x f = f refl
 
@@ -57,24 +55,12 @@ module _ (P : Pair) where
   cycle-keeps : (c : Chip) (a b : ℕ) (w : Board P) → Agrees P a b w → Kept c a b (cycle P c w)
   cycle-keeps Chip.driver a b w r =
       let m = r .allowed in
-      let full = changes P a && leb 64 (length (changesIn P b a)) in
-      let x : Cycled P = Cycled.done (boardAt P (suc a) b) in
-      let y : Cycled P = cond full (Cycled.refused Stop.full) x in
-      let z : Cycled P = cond (leb (b + driverLimit) a) (Cycled.refused Stop.waits) y in
       rw (r .same, driver-cycle P a b m)
-      (unless Chip.driver a b (P .driverBad (stampAt (P .start) a) (driverAt P a)) Stop.bad z λ d.
-      unless Chip.driver a b (leb (b + driverLimit) a) Stop.waits y λ e.
-      unless Chip.driver a b full Stop.full x λ f.
-      one-driver a b (driven-allowed P a b m (leb-false _ _ e) f))
+      (unless _ a b _ _ _ λ d. unless _ a b _ _ _ λ e. unless _ a b _ _ (Cycled.done (boardAt P (suc a) b)) λ f. one-driver a b (driven-allowed P a b m (leb-false _ _ e) f))
   cycle-keeps Chip.listener a b w r =
       let m = r .allowed in
-      let waits = leb (a + listenerLimit (P .wired)) b in
-      let x : Cycled P = Cycled.done (boardAt P a (suc b)) in
-      let y : Cycled P = cond waits (Cycled.refused Stop.waits) x in
       rw (r .same, listener-cycle P a b m)
-      (unless Chip.listener a b (P .listenerBad (stampAt (P .start) b) (listenerAt P b)) Stop.bad y λ d.
-      unless Chip.listener a b waits Stop.waits x λ e.
-      one-listener a b (listened-allowed P a b m (leb-false _ _ e)))
+      (unless _ a b _ _ _ λ d. unless _ a b _ _ (Cycled.done (boardAt P a (suc b))) λ e. one-listener a b (listened-allowed P a b m (leb-false _ _ e)))
 
   pub call-keeps : (c : Chip) (n a b : ℕ) (w : Board P) → Agrees P a b w → let r = called P c n w in
       Agrees P (a + ofDriver c (r .count)) (b + ofListener c (r .count)) (r .board)
@@ -122,7 +108,7 @@ module _ (P : Pair) where
       listener-done n _ _ _ (driver-done m _ _ _ r e) f .same ∙ sym (driver-done m _ _ _ (listener-done n _ _ _ r g) h .same)
 
   -- boards in agreement whose stamps are equal have done as many cycles of each chip
-  at-one : (a b : ℕ) (w : Board P) → Agrees P a b w → w .driverStamp ≡ w .listenerStamp → (a ≡ b) × (w .driver ≡ driverAt P a) × (w .listener ≡ listenerAt P a)
+  pub at-one : (a b : ℕ) (w : Board P) → Agrees P a b w → w .driverStamp ≡ w .listenerStamp → (a ≡ b) × (w .driver ≡ driverAt P a) × (w .listener ≡ listenerAt P a)
   unfolding boardAt
   at-one a b w r e =
       let m = r .allowed in

@@ -4,9 +4,9 @@ use mathlib.Core.Path.{_≡_, refl, ap, sym, _∙_}
 use mathlib.Core.Bool.{Bool, true, false, not, cond, Bool·beq}
 use mathlib.Core.List.{List, [], _∷_, _++_}
 use native.Mathlib.Omega.{arith}
-use lib.ListN.{length, getD, set}
+use lib.ListN.{length, getD, set, length-set}
 use lib.Seq.{getD-set-same, getD-set-other}
-use lib.Dec.{eqb}
+use lib.Dec.{eqb, leb}
 use borrow.Author.Tests.{eqb-true, eqb-false, le-leb, lt-leb, eq-eqb, ne-eqb}
 use Rattle.wire.specs.declared.book.Ends.{Ends}
 use Rattle.wire.specs.Order.{laterThan, turned}
@@ -28,6 +28,11 @@ module _ (places : List ℕ) where
   unfolding entries
   entries-length zero a = refl
   entries-length (suc n) a = ap suc (entries-length n (suc a))
+
+  -- where none wait there is none
+  pub none-waits : (a : ℕ) → entries places a 0 ≡ []
+  unfolding entries
+  none-waits a = refl
 
   -- one entry more at the end
   entries-more : (n a : ℕ) → entries places a (suc n) ≡ entries places a n ++ (getD places ((a + n) % 64) 0 ∷ [])
@@ -67,6 +72,15 @@ module _ (places : List ℕ) (ends : Ends) where
   pub noted-full : (stamp : ℕ) → 64 ≤ ends .waiting → notedOf places ends stamp ≡ bookOf places ends
   unfolding notedOf
   noted-full stamp h = rw (le-leb 64 (ends .waiting) h)
+
+  -- noting a change leaves as many places
+  pub noted-length : (stamp : ℕ) → length (notedOf places ends stamp .places) ≡ length places
+  unfolding notedOf
+  noted-length stamp = go (leb 64 (ends .waiting))
+    where
+      go : (b : Bool) → length (cond b (bookOf places ends) (bookOf (set places ((ends .first + ends .waiting) % 64) stamp) (record { first = ends .first; waiting = ends .waiting + 1 })) .places) ≡ length places
+      go true = refl
+      go false = simp length-set
 
   -- the oldest leaves if it is of the stamp
   left-by : (n stamp : ℕ) → ends .waiting ≡ n → waitingOf places (leftOf places ends stamp) ≡ laterThan stamp (waitingOf places ends)

@@ -9,12 +9,12 @@ use lib.Dec.{eqb, lit<}
 use Rattle.wire.specs.Stamp.{gap, signed, leadOf, listenerLimit, inReach, driverWaits, listenerWaits}
 use Rattle.wire.specs.Order.{laterThan, turned, heardOf, spanOf, rising, inOrder}
 use Rattle.wire.specs.Book.{entries, waitingOf, notedOf, leftOf, inOrderAt}
-use Rattle.wire.specs.Pair.{Pair, Board, Chip, Call, numberOf, level, fresh, turns, driven, listened, cycle, goesOn, called, run}
+use Rattle.wire.specs.Pair.{Pair, Board, Chip, Call, numberOf, level, fresh, turns, driven, listened, stopIf, cycle, goesOn, called, run}
 use Rattle.wire.specs.Lockstep.{driverAt, listenerAt, changes, changesIn, boardAt}
 
 -- to unfold this is to unfold the whole model
 model : Bool
-unfolding gap signed leadOf listenerLimit inReach driverWaits listenerWaits laterThan turned heardOf spanOf rising inOrder entries notedOf leftOf inOrderAt numberOf level fresh turns driven listened cycle goesOn called run driverAt listenerAt changes changesIn boardAt xor
+unfolding gap signed leadOf listenerLimit inReach driverWaits listenerWaits laterThan turned heardOf spanOf rising inOrder entries notedOf leftOf inOrderAt numberOf level fresh turns driven listened stopIf cycle goesOn called run driverAt listenerAt changes changesIn boardAt xor
 model = true
 
 -- A driver that counts, whose output turns every k cycles and whose next event, if it has no wire, is bad at the stamp 30; a listener

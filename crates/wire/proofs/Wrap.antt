@@ -1,5 +1,5 @@
 -- The wrap of the stamps: what is read off two wrapped stamps is true of the counts behind them.
-use Prim.Native.Nat.{ℕ, suc, _+_, _-_, _^_, _<_, _≤_}
+use Prim.Native.Nat.{_%_, ℕ, suc, _+_, _-_, _^_, _<_, _≤_}
 use mathlib.Core.Path.{_≡_, refl}
 use mathlib.Core.Bool.{Bool, true, false, not, _&&_, _||_, or-true}
 use native.Mathlib.Omega.{arith}
@@ -74,3 +74,8 @@ pub span-is : (s a b : ℕ) → b ≤ a → a ≤ b + 65536 → spanOf (stampAt 
 unfolding spanOf
 span-is s a b h i =
     rw (gap-on s a b h (omega arith), lt-ltb (a - b) (2 ^ 31) (omega arith)) (omega arith)
+
+-- how many cycles a stamp has moved by is what lies between
+pub gap-count : (s n : ℕ) → s < 2 ^ 32 → n < 2 ^ 32 → gap s ((s + n) % 2 ^ 32) ≡ n
+unfolding gap
+gap-count s n h k = omega arith

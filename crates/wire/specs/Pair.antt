@@ -95,15 +95,19 @@ module _ (P : Pair) where
     done : Board → Cycled
     refused : Stop → Cycled
 
+  -- stopped, if the test says so
+  unfoldable pub stopIf : Bool → Stop → Cycled → Cycled
+  stopIf t s x = cond t (refused s) x
+
   -- before each cycle 5, 6, 7
   unfoldable pub cycle : Chip → Board → Cycled
   cycle driver w =
-      cond (P .driverBad (w .driverStamp) (w .driver)) (refused bad)
-      (cond (driverWaits (w .listenerStamp) (w .driverStamp)) (refused waits)
-      (cond (turns w && leb 64 (length (w .book))) (refused full) (done (driven w))))
+      stopIf (P .driverBad (w .driverStamp) (w .driver)) bad
+      (stopIf (driverWaits (w .listenerStamp) (w .driverStamp)) waits
+      (stopIf (turns w && leb 64 (length (w .book))) full (done (driven w))))
   cycle listener w =
-      cond (P .listenerBad (w .listenerStamp) (w .listener)) (refused bad)
-      (cond (listenerWaits (w .listenerStamp) (w .driverStamp) (P .wired)) (refused waits) (done (listened w)))
+      stopIf (P .listenerBad (w .listenerStamp) (w .listener)) bad
+      (stopIf (listenerWaits (w .listenerStamp) (w .driverStamp) (P .wired)) waits (done (listened w)))
 
   -- what a call gives: the board, the number returned, and how many cycles were done
   pub record Called : Type 0 where
@@ -120,6 +124,10 @@ module _ (P : Pair) where
   unfoldable pub called : Chip → ℕ → Board → Called
   called c zero w = record { board = w; number = 0; count = 0 }
   called c (suc n) w = goesOn (called c n) w (cycle c w)
+
+  -- a call, with n cycles counted that were done before it
+  abbrev pub plus : ℕ → Called → Called
+  plus n r = record { board = r .board; number = r .number; count = n + r .count }
 
   -- calls one after the other, whatever each returns
   unfoldable pub run : List Call → Board → Board

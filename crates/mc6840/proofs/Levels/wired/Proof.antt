@@ -1,5 +1,4 @@
 -- `mc6840::Levels::wired` meets its contract: each answer follows from the tests and calls on its way. Assumes nothing.
-use borrow.Author.Needs.{needs}
 use borrow.Author.Tests.{ne-eqb}
 use Rattle.mc6840.specs.Events.{wiredOf}
 use Rattle.mc6840.proofs.Levels.wired.Statement.{statement}
