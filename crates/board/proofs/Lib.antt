@@ -5,3 +5,4 @@ pub mod Pair
 pub mod Sim6846
 pub mod Sim6840
 pub mod Agreement
+pub mod Laws

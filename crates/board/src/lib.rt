@@ -18,9 +18,9 @@ use wire::book::in_order;
 use wire::stamp::ahead;
 use wire::stamp::in_reach;
 
-pub mod events;
-pub mod mover6840;
-pub mod mover6846;
+mod events;
+mod mover6840;
+mod mover6846;
 
 // The whole record; a host may hold it. A place of the book that no waiting change stands in may hold anything.
 #[repr(C)]
