@@ -28,7 +28,7 @@ use Rattle.board.specs.Calls.{Result, refused, listFits, given6846, begu
 
 -- to unfold this is to unfold the whole board
 whole : Bool
-unfolding t.dividerAfter t.modeOf t.initialised t.held t.settled t.written t.latchWritten t.started t.caught t.fell t.loads t.rose t.gated t.fallen t.enabled t.levelAfter t.timedOut t.countedDown t.edged t.reaches t.freeCycle t.cycleOf t.pinIn t.controlWritten t.msbRead s.gap s.signed s.leadOf s.listenerLimit s.inReach s.driverWaits s.listenerWaits o.laterThan o.turned o.heardOf o.spanOf o.rising o.inOrder k.entries k.notedOf k.leftOf k.inOrderAt e6.levelsOf e6.accessOf e6.badAccess e6.eventOf p6.mixed p6.activeEdge p6.cp1Edge p6.cp2Edge p6.capturing p6.flagged p6.acknowledged p6.sampled p6.pdrByte p6.released p6.touchedBy p6.pdrWritten p6.portCleared p6.portSettled p6.cp2Out p6.cp2Of p6.portOf r6.settingOf r6.a6Fits r6.extraFits r6.ioChosen r6.compositeOf r6.weight r6.statusOf r6.registerByte r6.statusRead r6.counterRead r6.afterRead r6.pcrWritten r6.tcrWritten r6.lsbWritten r6.stored r6.timerSettled r6.afterWrite c6.resetOf c6.edged c6.clocked c6.readBy c6.writtenBy c6.accessed c6.resetCycle c6.cycleOf c6.ctoOf c6.inRange e0.levelsOf e0.accessOf e0.eventOf e0.wiredOf r0.settingAt r0.resetOf r0.startOf r0.clocked r0.compositeOf r0.statusOf r0.statusByte r0.armedAll r0.msbReadAt r0.driven r0.afterRead r0.controlAt r0.latchAt r0.controlZero r0.stored r0.settledAll r0.accessed r0.underReset r0.cycleOf r0.outputsOf r0.inRange run numberOf reportNumber goes dueOf taken6846 due6846 taken6840 due6840 answered m6.stopped m6.moved m6.changes m6.noting m6.cycled m6.nextBy m6.stepOf m0.stopped m0.moved m0.seen m0.cycled m0.nextBy m0.stepOf legal freshOf refusedStart startOf optionsFit bookFits inRanges levelsOf noLevels reportOf refused listFits given6846 begun6846 put6846 after6846 moved6846 move6846 given6840 begun6840 put6840 after6840 moved6840 move6840
+unfolding t.dividerAfter t.modeOf t.initialised t.held t.settled t.written t.latchWritten t.started t.caught t.fell t.loads t.rose t.gated t.fallen t.enabled t.levelAfter t.timedOut t.countedDown t.edged t.reaches t.freeCycle t.cycleOf t.pinIn t.controlWritten t.msbRead s.gap s.signed s.leadOf s.listenerLimit s.inReach s.driverWaits s.listenerWaits o.laterThan o.turned o.heardOf o.spanOf o.rising o.inOrder k.entries k.notedOf k.leftOf k.inOrderAt e6.levelsOf e6.accessOf e6.badAccess e6.eventOf p6.mixed p6.activeEdge p6.cp1Edge p6.cp2Edge p6.capturing p6.flagged p6.acknowledged p6.sampled p6.pdrByte p6.released p6.touchedBy p6.pdrWritten p6.portCleared p6.portSettled p6.cp2Out p6.cp2Of p6.portOf r6.settingOf r6.a6Fits r6.extraFits r6.ioChosen r6.compositeOf r6.weight r6.statusOf r6.registerByte r6.statusRead r6.counterRead r6.afterRead r6.pcrWritten r6.tcrWritten r6.lsbWritten r6.stored r6.timerSettled r6.afterWrite c6.resetOf c6.edged c6.clocked c6.readBy c6.writtenBy c6.accessed c6.transferred c6.resetCycle c6.cycleOf c6.ctoOf c6.inRange e0.levelsOf e0.accessOf e0.eventOf e0.wiredOf r0.settingAt r0.resetOf r0.startOf r0.clocked r0.compositeOf r0.statusOf r0.statusByte r0.armedAll r0.msbReadAt r0.driven r0.afterRead r0.controlAt r0.latchAt r0.controlZero r0.stored r0.settledAll r0.accessed r0.underReset r0.cycleOf r0.outputsOf r0.inRange run numberOf reportNumber goes dueOf taken6846 due6846 taken6840 due6840 answered m6.stopped m6.moved m6.changes m6.noting m6.cycled m6.nextBy m6.stepOf m0.stopped m0.moved m0.seen m0.cycled m0.nextBy m0.stepOf legal freshOf refusedStart startOf optionsFit bookFits inRanges levelsOf noLevels reportOf refused listFits given6846 begun6846 put6846 after6846 moved6846 move6846 given6840 begun6840 put6840 after6840 moved6840 move6840
 whole = true
 
 -- a step of a case: a call with the number and the count that it returns; or both chips moved by some cycles, and the report

@@ -1,5 +1,5 @@
 -- What the board cites of the chip, so that it unfolds no rule.
-use Prim.Native.Nat.{ℕ, _%_}
+use Prim.Native.Nat.{ℕ}
 use mathlib.Core.Path.{_≡_, refl, ap, _∙_}
 use mathlib.Core.Bool.{Bool, true, false, not, cond, _&&_}
 use mathlib.Core.List.{List}
@@ -14,8 +14,8 @@ use Rattle.mc6846.specs.declared.Select.{Select}
 use Rattle.mc6846.specs.declared.Done.{Done}
 use Rattle.mc6846.specs.Events.{highLevels}
 use Rattle.mc6846.specs.Port.{cp1Edge, capturing, flagged, acknowledged, sampled, released, touchedBy, pdrWritten, portCleared, portSettled}
-use Rattle.mc6846.specs.Registers.{settingOf, romChosen, ioChosen, statusRead, counterRead, afterRead, pcrWritten, tcrWritten, lsbWritten, stored, timerSettled, afterWrite}
-use Rattle.mc6846.specs.Cycle.{resetOf, startOf, edged, clocked, readBy, writtenBy, accessed, resetCycle, cycleOf, ctoOf, inRange}
+use Rattle.mc6846.specs.Registers.{romChosen, ioChosen, statusRead, counterRead, afterRead, pcrWritten, tcrWritten, lsbWritten, stored, timerSettled, afterWrite}
+use Rattle.mc6846.specs.Cycle.{resetOf, startOf, edged, clocked, readBy, writtenBy, transferred, accessed, resetCycle, cycleOf, ctoOf, inRange}
 use Rattle.mc6846.proofs.Runs.{start-low}
 
 -- the levels last sampled
@@ -59,7 +59,7 @@ write-seen r v c = timer-seen _ ∙ port-seen _ ∙ stored-seen r v c
 
 module _ (s : Select) (rom : List ℕ) (a : Access) (c : Combo) where
   access-seen : seen (accessed s rom a c .chip) ≡ seen c
-  unfolding accessed readBy writtenBy
+  unfolding accessed transferred readBy writtenBy
   access-seen =
       either (λ (d : Done). seen (d .chip)) (a .present) _ _ _
       (either (λ (d : Done). seen (d .chip)) (a .read) _ _ _
@@ -122,7 +122,7 @@ write-fits r v c p = timer-fits _ (port-fits _ (stored-fits r v c p))
 
 module _ (s : Select) (rom : List ℕ) (a : Access) (c : Combo) (p : fit c ≡ true) where
   access-fits : fit (accessed s rom a c .chip) ≡ true
-  unfolding accessed readBy writtenBy
+  unfolding accessed transferred readBy writtenBy
   access-fits =
       either (λ (d : Done). fit (d .chip)) (a .present) _ _ _
       (either (λ (d : Done). fit (d .chip)) (a .read) _ _ _

@@ -1,4 +1,4 @@
--- Runs 8, 9 and 10 of document 01 and the pin at start, computed on the definitions.
+-- Runs 8, 9 and 10 of document 01, the pin at start and the rules of CP2 and the capture, computed on the definitions.
 use Prim.Native.Nat.{ℕ}
 use mathlib.Core.Path.{_≡_, refl}
 use mathlib.Core.Bool.{Bool, true, false}
@@ -18,7 +18,7 @@ use Rattle.mc6846.specs.Cycle as cycle
 
 -- to unfold this is to unfold every rule
 rules : Bool
-unfolding dividerAfter modeOf initialised held settled written latchWritten started caught fell loads rose gated fallen enabled levelAfter timedOut countedDown freeCycle pinIn controlWritten msbRead timer.edged timer.reaches timer.cycleOf port.mixed port.activeEdge port.cp1Edge port.cp2Edge port.capturing port.flagged port.acknowledged port.sampled port.pdrByte port.released port.touchedBy port.pdrWritten port.portCleared port.portSettled registers.settingOf registers.a6Fits registers.extraFits registers.ioChosen registers.compositeOf registers.weight registers.statusOf registers.registerByte registers.statusRead registers.counterRead registers.afterRead registers.pcrWritten registers.tcrWritten registers.lsbWritten registers.stored registers.timerSettled registers.afterWrite cycle.resetOf cycle.edged cycle.clocked cycle.readBy cycle.writtenBy cycle.accessed cycle.resetCycle cycleOf ctoOf
+unfolding dividerAfter modeOf initialised held settled written latchWritten started caught fell loads rose gated fallen enabled levelAfter timedOut countedDown freeCycle pinIn controlWritten msbRead timer.edged timer.reaches timer.cycleOf port.mixed port.activeEdge port.cp1Edge port.cp2Edge port.capturing port.flagged port.acknowledged port.sampled port.pdrByte port.released port.touchedBy port.pdrWritten port.portCleared port.portSettled port.cp2Out port.cp2Of registers.settingOf registers.a6Fits registers.extraFits registers.ioChosen registers.compositeOf registers.weight registers.statusOf registers.registerByte registers.statusRead registers.counterRead registers.afterRead registers.pcrWritten registers.tcrWritten registers.lsbWritten registers.stored registers.timerSettled registers.afterWrite cycle.resetOf cycle.edged cycle.clocked cycle.readBy cycle.writtenBy cycle.transferred cycle.accessed cycle.resetCycle cycleOf ctoOf
 rules = true
 
 -- Start's CTO is low.
@@ -83,3 +83,31 @@ run-10 = refl
 run-10-read : answers (noAccess ∷ reads 6 ∷ reads 7 ∷ reads 0 ∷ []) timing ≡ 256 ∷ 0 ∷ 1 ∷ 129 ∷ []
 unfolding rules codes writes reads low next after answers timing
 run-10-read = refl
+
+-- CP1 falls, with these pins
+struck : ℕ → Levels
+struck p = record { pins = p; cp1 = false; cp2 = true; gate = false; clock = true; reset = true }
+
+-- the port out of its reset with this PCR, after a CP1 edge
+edge : ℕ → ℕ → Combo → Combo
+edge p k c = cycleOf codes [] (struck p) noAccess (next (writes 1 k) c .chip) .chip
+
+-- CP2 after a cycle for each access
+cp2s : List Access → Combo → List Bool
+cp2s [] c = []
+cp2s (a ∷ more) c = port.cp2Of (next a c .chip) ∷ cp2s more (next a c .chip)
+
+-- CP2 out: 0,1 low only in the cycle after a PDR access.
+strobe : cp2s (writes 1 40 ∷ reads 3 ∷ noAccess ∷ noAccess ∷ []) startOf ≡ true ∷ true ∷ false ∷ true ∷ []
+unfolding rules codes writes reads low next cp2s
+strobe = refl
+
+-- CP2 out: 0,0 high while flag 1 is set and in the cycle in which it clears.
+acknowledge : cp2s (reads 0 ∷ reads 3 ∷ noAccess ∷ []) (edge 195 32 startOf) ≡ true ∷ true ∷ false ∷ []
+unfolding rules codes writes reads low next struck edge cp2s
+acknowledge = refl
+
+-- With PCR2=1 the first active CP1 edge captures all eight levels; a PDR read uses them and releases them.
+capture : answers (reads 3 ∷ reads 3 ∷ []) (edge 1 4 (edge 195 4 startOf)) ≡ 195 ∷ 60 ∷ []
+unfolding rules codes writes reads low next answers struck edge
+capture = refl

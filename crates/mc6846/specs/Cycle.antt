@@ -1,6 +1,6 @@
 -- The section "One cycle" of document 01, for the 6846.
 use Prim.Native.Nat.{ℕ, _%_}
-use mathlib.Core.Bool.{Bool, true, false, cond}
+use mathlib.Core.Bool.{Bool, false, cond}
 use mathlib.Core.List.{List}
 use lib.ListN.{getD}
 use Rattle.timer.specs.Rules.{resetState, pinOf, fits}
@@ -56,12 +56,17 @@ readBy s rom a c =
     cond (romChosen s a) (done c (getD rom (a .address) 0))
     (cond (ioChosen s a) (done (afterRead (a .address % 8) c) (registerByte (a .address % 8) c)) (done c 256))
 
+-- A write drives nothing. I/O alone is written.
 unfoldable pub writtenBy : Select → Access → Combo → Done
 writtenBy s a c = cond (ioChosen s a) (done (afterWrite (a .address % 8) (a .byte) c) 256) (done c 256)
 
+-- A read or a write.
+unfoldable pub transferred : Select → List ℕ → Access → Combo → Done
+transferred s rom a c = cond (a .read) (readBy s rom a c) (writtenBy s a c)
+
 -- Bus access.
 unfoldable pub accessed : Select → List ℕ → Access → Combo → Done
-accessed s rom a c = cond (a .present) (cond (a .read) (readBy s rom a c) (writtenBy s a c)) (done c 256)
+accessed s rom a c = cond (a .present) (transferred s rom a c) (done c 256)
 
 -- RESET low gives the reset state. ROM and register reads answer from it with no side effect; writes do nothing.
 unfoldable pub resetCycle : Select → List ℕ → Levels → Access → Done

@@ -82,6 +82,7 @@ afterRead r c =
 unfoldable pub pcrWritten : ℕ → Combo → Combo
 pcrWritten v c = withPcr (v / 128 * 128 + v % 64) c
 
+-- TCR takes the byte whole.
 unfoldable pub tcrWritten : ℕ → Combo → Combo
 tcrWritten v c = withTimer (controlWritten v (c .timer)) c
 

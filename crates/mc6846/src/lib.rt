@@ -3,10 +3,10 @@ ghost use mathlib.Core.Path.{_≡_};
 ghost use lib.ListN.{getD};
 ghost use Rattle.timer.specs.Fields.{bit};
 ghost use Rattle.mc6846.specs.Fields.{withMsb, withDdr, done};
-ghost use Rattle.mc6846.specs.Events.{highLevels, noAccess, levelsOf, accessOf, badLevels, badAccess, eventOf};
+ghost use Rattle.mc6846.specs.Events.{highLevels, noAccess, levelsOf, accessOf, badAccess, eventOf};
 ghost use Rattle.mc6846.specs.Port.{mixed, activeEdge, cp1Edge, cp2Edge, capturing, flagged, acknowledged, sampled, pdrByte, released, touchedBy, pdrWritten, portCleared, portSettled, cp2Out, cp2Of, portOf};
 ghost use Rattle.mc6846.specs.Registers.{settingOf, a6Fits, extraFits, ioChosen, compositeOf, weight, statusOf, registerByte, statusRead, counterRead, afterRead, pcrWritten, tcrWritten, lsbWritten, stored, timerSettled, afterWrite};
-ghost use Rattle.mc6846.specs.Cycle.{resetOf, startOf, edged, clocked, readBy, writtenBy, accessed, resetCycle, cycleOf, ctoOf, inRange};
+ghost use Rattle.mc6846.specs.Cycle.{resetOf, startOf, edged, clocked, readBy, writtenBy, transferred, accessed, resetCycle, cycleOf, ctoOf, inRange};
 use timer::Setting;
 use timer::Timer;
 
@@ -583,14 +583,20 @@ impl Combo {
         self.answer(256)
     }
 
+    fn transfer(self, select: Select, rom: &[u8], access: Access) -> Done
+        ensures { λ r. ⌜ r ≡ transferred select (now (rom .entry)) access self ⌝ }
+    {
+        if access.read {
+            return self.read(select, rom, access);
+        }
+        self.write(select, access)
+    }
+
     fn serve(self, select: Select, rom: &[u8], access: Access) -> Done
         ensures { λ r. ⌜ r ≡ accessed select (now (rom .entry)) access self ⌝ }
     {
         if access.present {
-            if access.read {
-                return self.read(select, rom, access);
-            }
-            return self.write(select, access);
+            return self.transfer(select, rom, access);
         }
         self.answer(256)
     }
@@ -656,6 +662,9 @@ fn reset_cycle(select: Select, rom: &[u8], levels: Levels, access: Access) -> Do
     ensures { λ r. ⌜ r ≡ resetCycle select (now (rom .entry)) levels access ⌝ }
 {
     let chip = Combo::reset(levels);
-    let seen = chip.serve(select, rom, access);
-    chip.answer(seen.answer)
+    if access.present {
+        let seen = chip.transfer(select, rom, access);
+        return chip.answer(seen.answer);
+    }
+    chip.answer(256)
 }

@@ -1,0 +1,8 @@
+//! Tests of the compiled library: against the second emulator, on arbitrary input, batches against single cycles.
+
+pub mod arbitrary;
+pub mod batches;
+pub mod compare;
+pub mod rng;
+pub mod traffic;
+pub mod twin;
