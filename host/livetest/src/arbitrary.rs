@@ -1,8 +1,8 @@
 //! Arbitrary input: any record, slices, lengths and counts. Each call returns, twice the same, and a refusal changes nothing.
 
-use crate::rng::Rng;
 use crate::traffic;
 use crate::twin;
+use second::rng::Rng;
 use vindoshaka::raw::{self, Board as Record};
 use vindoshaka::{Board, Moved, Number};
 

@@ -1,7 +1,7 @@
 //! A batch against its single cycles, on the library alone: same board, same answers, same count.
 
-use crate::rng::Rng;
 use crate::traffic::{self, Feed};
+use second::rng::Rng;
 use vindoshaka::{level, Board, Moved, Number};
 
 fn one_by_one(cycles: u32, mut step: impl FnMut() -> Moved) -> Moved {

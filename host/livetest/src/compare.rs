@@ -1,8 +1,8 @@
 //! The library and the second emulator side by side: random lists, call sequences and batch sizes.
 
-use crate::rng::Rng;
 use crate::traffic::{self, Feed};
 use crate::twin;
+use second::rng::Rng;
 use vindoshaka::{level, Board, Moved, Number, Options};
 
 /// What a comparison went through.

@@ -3,6 +3,5 @@
 pub mod arbitrary;
 pub mod batches;
 pub mod compare;
-pub mod rng;
 pub mod traffic;
 pub mod twin;

@@ -1,6 +1,6 @@
 //! Random events that a chip goes through: lively lines, accesses that mostly reach a register.
 
-use crate::rng::Rng;
+use second::rng::Rng;
 use vindoshaka::{level, Options};
 
 /// Start options, all legal.

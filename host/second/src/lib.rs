@@ -8,6 +8,7 @@ mod chip6840;
 mod chip6846;
 mod events;
 mod port;
+pub mod rng;
 pub mod runfile;
 mod timer;
 mod watch;

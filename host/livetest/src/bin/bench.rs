@@ -1,7 +1,7 @@
 //! The library and the second emulator on the same lists: ns a board cycle (both chips), best of several, interleaved.
 
-use livetest::rng::Rng;
 use livetest::traffic;
+use second::rng::Rng;
 use std::arch::asm;
 use std::hint::black_box;
 use vindoshaka::{level, raw, Board, Options};

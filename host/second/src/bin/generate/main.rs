@@ -1,7 +1,7 @@
 //! `generate SEED RUNS [--rom PATH]` writes a run file; `generate --write-rom PATH` writes its ROM files.
 
 mod maker;
-mod rng;
+
 mod runs;
 mod traffic;
 
@@ -46,7 +46,7 @@ fn write_runs(seed: u64, runs: u32, rom: &str, out: &mut impl Write) -> io::Resu
 
 /// 2,048 bytes that are the same everywhere, and beside them a file of 100 bytes that is refused as a ROM.
 fn write_rom(path: &str) -> Result<(), String> {
-    let mut rng = rng::Rng::new(6846);
+    let mut rng = second::rng::Rng::new(6846);
     let bytes: Vec<u8> = (0..2048).map(|_| rng.word() as u8).collect();
     let write = |path: &str, bytes: &[u8]| {
         std::fs::write(path, bytes).map_err(|error| format!("cannot write {path}: {error}"))

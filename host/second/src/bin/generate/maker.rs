@@ -1,6 +1,6 @@
 //! Writes the commands of one run, and plays them on a board of its own so that it knows the stamps.
 
-use crate::rng::Rng;
+use second::rng::Rng;
 use second::Board;
 use std::fmt::Write;
 

@@ -1,8 +1,8 @@
 //! What one run is made of.
 
 use crate::maker::{Chip, Maker};
-use crate::rng::Rng;
 use crate::traffic::{Focus, Phase};
+use second::rng::Rng;
 
 /// One of so many runs goes to the longest lead; the other program must run them too.
 const LONG_EVERY: u32 = 1000;

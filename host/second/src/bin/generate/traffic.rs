@@ -1,7 +1,7 @@
 //! Random levels and accesses.
 
 use crate::maker::{Chip, Maker};
-use crate::rng::Rng;
+use second::rng::Rng;
 
 /// How lively one stretch of a run is; chances in percent for each event.
 pub struct Phase {
