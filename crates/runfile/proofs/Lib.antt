@@ -1,0 +1,4 @@
+pub mod Runs
+pub mod Sames
+pub mod Digits
+pub mod Decimals
