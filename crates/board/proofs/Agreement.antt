@@ -43,7 +43,7 @@ wires [] = []
 wires (c ∷ cs) = record { chip = machine (c .chip); cycles = c .cycles } ∷ wires cs
 
 -- a list of whole events, at least as many as were done, fits
-list-fits : (n done : ℕ) → n % 3 ≡ 0 → done ≤ n / 3 → listFits n done ≡ true
+pub list-fits : (n done : ℕ) → n % 3 ≡ 0 → done ≤ n / 3 → listFits n done ≡ true
 unfolding listFits
 list-fits n done e h = rw (eq-eqb (n % 3) 0 e, le-leb done (n / 3) h)
 

@@ -8,3 +8,4 @@ pub mod Calls
 pub mod Reached
 pub mod Progress
 pub mod Table
+pub mod Ranges

@@ -85,3 +85,11 @@ pub in-order-at : (places : List ℕ) (ends : Ends) (listener driver : ℕ) → 
     inOrderAt places ends listener driver ≡ true
 unfolding inOrderAt
 in-order-at places ends listener driver h e = rw (le-leb (ends .waiting) 64 (rw (waiting-length places ends) at h), e)
+
+-- and one that is in order holds no more than 64 changes, in order
+pub at-in-order : (places : List ℕ) (ends : Ends) (listener driver : ℕ) → inOrderAt places ends listener driver ≡ true →
+    (length (waitingOf places ends) ≤ 64) × (inOrder listener driver (waitingOf places ends) ≡ true)
+unfolding inOrderAt
+at-in-order places ends listener driver e =
+    let p = both (leb (ends .waiting) 64) _ e in
+    (rw (waiting-length places ends) (leb-true (ends .waiting) 64 (p .0)), p .1)
