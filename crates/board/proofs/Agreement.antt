@@ -280,6 +280,15 @@ module _ (S : Setup) where
         },
       )
 
+  -- EACH ON ITS OWN. Each chip is where lockstep has it after as many cycles as its own calls did: a call that stopped short and is
+  -- repeated, whatever the other chip did in between, goes on where it stood.
+  pub on-its-own : (cs : List Call) → let h = after S cs (fresh S) in
+      (side6846 S h ≡ lockstep S (done6846 cs) .side6846) × (side6840 S h ≡ lockstep S (done6840 cs) .side6840)
+  unfolding step.boardAt
+  on-its-own cs =
+      let e = now-agrees cs .same in
+      (ap (λ (b : w.Board (pair S)). b .driver) e ∙ sym (lockstep-is (done6846 cs) .0), ap (λ (b : w.Board (pair S)). b .listener) e ∙ sym (lockstep-is (done6840 cs) .1))
+
   good : NoneBad S → step.Good (pair S)
   good g = record {
     driver = λ n. rw (← (lockstep-is n .0)) (g .of6846 n);
