@@ -2,9 +2,9 @@
 use board::Board;
 use board::Moved;
 use libc::STDERR_FILENO;
-use runfile::commands::Chip;
-use runfile::commands::Command;
-use runfile::lines::Line;
+use lines::Line;
+use runfile::Chip;
+use runfile::Command;
 
 mod list;
 mod page;
@@ -166,7 +166,7 @@ fn report(state: State, paper: &mut [u8]) -> Turn {
     let b = state.board;
     let pins = board::report(b);
     let outcome = pins.outcome;
-    let levels = runfile::texts::levels(
+    let levels = texts::levels(
         pins.port,
         pins.cp2,
         pins.cto,
@@ -306,13 +306,13 @@ fn obey(
     e6840: &mut [u32],
     a6840: &mut [u16],
 ) -> Turn {
-    let command = runfile::commands::decode(line);
+    let command = runfile::decode(line);
     match command {
         Command::Empty => state.good(),
         Command::UnknownWord => state.bad(Cause::UnknownWord),
         Command::WrongCount => state.bad(Cause::WrongCount),
         Command::BadNumber => state.bad(Cause::BadNumber),
-        Command::Rom => take_rom(state, runfile::words::text(line, 1), rom),
+        Command::Rom => take_rom(state, words::text(line, 1), rom),
         Command::Start {
             rom,
             io,
@@ -436,7 +436,7 @@ fn advance(
     let span = run.span;
     let from = span.from;
     let to = span.to;
-    match runfile::lines::cut(within(text, from, to), span.whole) {
+    match lines::cut(within(text, from, to), span.whole) {
         Line::Whole(n, next) => {
             let line = within(text, from, onward(from, n, to));
             let turn = obey(run.state, line, paper, rom, e6846, a6846, e6840, a6840);

@@ -53,7 +53,7 @@ pub fn put(paper: &mut [u8], page: Page, text: &[u8]) -> Page {
 }
 
 pub fn put_number(paper: &mut [u8], page: Page, n: u32) -> Page {
-    let digits = runfile::texts::decimal(n);
+    let digits = texts::decimal(n);
     let from = digits.from;
     let bytes = digits.bytes;
     put(paper, page, &bytes[from..])

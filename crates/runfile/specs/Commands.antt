@@ -2,18 +2,18 @@
 use Prim.Native.Nat.{ℕ, _+_}
 use mathlib.Core.Bool.{Bool, not, cond, _&&_}
 use mathlib.Core.List.{List, [], _∷_}
-use Rattle.runfile.specs.declared.commands.Chip.{Chip}
-use Rattle.runfile.specs.declared.commands.Chip.the-variants.{Mc6846, Mc6840}
-use Rattle.runfile.specs.declared.commands.Which.{Which}
-use Rattle.runfile.specs.declared.commands.Which.the-variants.{Of, Neither}
-use Rattle.runfile.specs.declared.commands.Name.{Name}
-use Rattle.runfile.specs.declared.commands.Name.the-variants as name
-use Rattle.runfile.specs.declared.commands.Command.{Command}
-use Rattle.runfile.specs.declared.commands.Command.the-variants as command
-use Rattle.runfile.specs.declared.numbers.Number.{Number}
-use Rattle.runfile.specs.declared.numbers.Number.the-variants.{Value, Bad}
-use Rattle.runfile.specs.Words.{textOf, filledAt, sameText}
-use Rattle.runfile.specs.Numbers.{goodIn, valueIn, numberOf}
+use Rattle.runfile.specs.declared.Chip.{Chip}
+use Rattle.runfile.specs.declared.Chip.the-variants.{Mc6846, Mc6840}
+use Rattle.runfile.specs.declared.Which.{Which}
+use Rattle.runfile.specs.declared.Which.the-variants.{Of, Neither}
+use Rattle.runfile.specs.declared.Name.{Name}
+use Rattle.runfile.specs.declared.Name.the-variants as name
+use Rattle.runfile.specs.declared.Command.{Command}
+use Rattle.runfile.specs.declared.Command.the-variants as command
+use Rattle.numbers.specs.declared.Number.{Number}
+use Rattle.numbers.specs.declared.Number.the-variants.{Value, Bad}
+use Rattle.words.specs.Words.{textOf, filledAt, sameText}
+use Rattle.numbers.specs.Numbers.{goodIn, valueIn, numberOf}
 
 -- `start`
 abbrev pub startText : List ℕ

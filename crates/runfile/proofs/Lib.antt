@@ -1,4 +1,0 @@
-pub mod Runs
-pub mod Sames
-pub mod Digits
-pub mod Decimals
