@@ -1,4 +1,4 @@
-// The command that a line says.
+// The commands of a run file: what a line of it says.
 ghost use mathlib.Core.Path.{_≡_};
 ghost use Prim.Native.Nat.{_<_};
 ghost use Rattle.runfile.specs.Commands.{chipOf, nameOf, numberAt, counted, allGood, startWith, startOf, romOf, eventWith, eventOf, moveWith, moveOf, alone, called, begun, commandOf};
