@@ -10,8 +10,11 @@ fn main() {
         Err(_) => vec![here.join("lib"), here.join("../../target/staticlib")],
     };
     let archive = |folder: &Path| folder.join("libvindoshaka.a");
-    let Some(folder) = folders.iter().find(|folder| archive(folder).exists()) else {
-        panic!("no libvindoshaka.a in {folders:?}: build it, or set VINDOSHAKA_LIB to its folder");
+    let folder = match folders.iter().find(|folder| archive(folder).exists()) {
+        Some(folder) => folder,
+        None => panic!(
+            "no libvindoshaka.a in {folders:?}: build it, or set VINDOSHAKA_LIB to its folder"
+        ),
     };
     println!("cargo:rerun-if-changed={}", archive(folder).display());
     println!("cargo:rustc-link-search=native={}", folder.display());

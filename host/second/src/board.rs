@@ -3,7 +3,7 @@
 use crate::book::Book;
 use crate::chip6840::Chip6840;
 use crate::chip6846::{Chip6846, Select};
-use crate::events::{next, Event, FORM_6840, FORM_6846};
+use crate::events::{next, Bad, Event, FORM_6840, FORM_6846};
 use crate::watch::{Nobody, Watch};
 
 /// The numbers returned.
@@ -131,8 +131,9 @@ impl Board {
         if !self.in_ranges() {
             return (number::BAD_RECORD, 0);
         }
-        let Ok(rom) = <&[u8; 2048]>::try_from(rom) else {
-            return (number::BAD_ROM, 0);
+        let rom = match <&[u8; 2048]>::try_from(rom) {
+            Ok(rom) => rom,
+            Err(_) => return (number::BAD_ROM, 0),
         };
         if let Some(number) = refused_list(events, answers, self.done_6846) {
             return (number, 0);
@@ -141,8 +142,9 @@ impl Board {
         while count < cycles {
             // Before each cycle 5, 6, 7. A good event stays good until its own cycle, so it is taken
             // apart once for all the cycles up to that one.
-            let Ok(event) = next(events, self.done_6846, self.stamp_6846, &FORM_6846) else {
-                return (number::BAD_EVENT, count);
+            let event = match next(events, self.done_6846, self.stamp_6846, &FORM_6846) {
+                Ok(event) => event,
+                Err(Bad) => return (number::BAD_EVENT, count),
             };
             // Between events levels stay and there is no access.
             let quiet = quiet_cycles(event, cycles - count);
@@ -153,8 +155,9 @@ impl Board {
                     Err(number) => return (number, count),
                 }
             }
-            let Some(event) = event.filter(|_| count < cycles) else {
-                continue;
+            let event = match event {
+                Some(event) if count < cycles => event,
+                _ => continue,
             };
             match self.cycle_6846(rom, event.levels, event.access, watch) {
                 Ok(answer) => {
@@ -184,8 +187,9 @@ impl Board {
         }
         let mut count = 0;
         while count < cycles {
-            let Ok(event) = next(events, self.done_6840, self.stamp_6840, &FORM_6840) else {
-                return (number::BAD_EVENT, count);
+            let event = match next(events, self.done_6840, self.stamp_6840, &FORM_6840) {
+                Ok(event) => event,
+                Err(Bad) => return (number::BAD_EVENT, count),
             };
             let quiet = quiet_cycles(event, cycles - count);
             for _ in 0..quiet {
@@ -195,8 +199,9 @@ impl Board {
                     Err(number) => return (number, count),
                 }
             }
-            let Some(event) = event.filter(|_| count < cycles) else {
-                continue;
+            let event = match event {
+                Some(event) if count < cycles => event,
+                _ => continue,
             };
             match self.cycle_6840(event.levels, event.access, watch) {
                 Ok(answer) => {
@@ -346,7 +351,7 @@ fn quiet_cycles(event: Option<Event>, asked: u32) -> u32 {
 
 /// 3: no multiple of 3, or fewer events than were done; 4: fewer answer places than events.
 fn refused_list(events: &[u32], answers: &[u16], done: usize) -> Option<u32> {
-    if !events.len().is_multiple_of(3) || events.len() / 3 < done {
+    if events.len() % 3 != 0 || events.len() / 3 < done {
         Some(number::BAD_LIST)
     } else if answers.len() < events.len() / 3 {
         Some(number::FEW_PLACES)

@@ -34,8 +34,9 @@ pub struct Bad;
 /// Takes the event of that index apart, for a chip at `stamp`; `None` if the list has no more.
 #[inline]
 pub fn next(list: &[u32], index: usize, stamp: u32, form: &Form) -> Result<Option<Event>, Bad> {
-    let Some(event) = list.get(index * 3..index * 3 + 3) else {
-        return Ok(None);
+    let event = match list.get(index * 3..index * 3 + 3) {
+        Some(event) => event,
+        None => return Ok(None),
     };
     let (levels, access) = (event[1], event[2]);
     // Stamps go round, so only their distance counts, never their size.

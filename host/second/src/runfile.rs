@@ -83,8 +83,9 @@ pub fn replay<L: Listen>(text: &[u8], out: &mut impl Write, listener: &mut L) ->
             Ok(line) => words_of(line),
             Err(cause) => return Err(Stop::Line(at, cause)),
         };
-        let Some((&command, operands)) = words.split_first() else {
-            continue;
+        let (&command, operands) = match words.split_first() {
+            Some(split) => split,
+            None => continue,
         };
         match replay.command(command, operands, out, listener) {
             Ok(()) => {}
@@ -249,8 +250,9 @@ impl Replay {
     }
 
     fn lend(&mut self, words: &[&[u8]]) -> Result<(), String> {
-        let [path] = words else {
-            return Err(wrong_count());
+        let path = match words {
+            [path] => path,
+            _ => return Err(wrong_count()),
         };
         let path = std::str::from_utf8(path)
             .map_err(|_| format!("cannot read `{}`: not a name", shown(path)))?;
@@ -271,12 +273,14 @@ impl Replay {
         out: &mut impl Write,
         listener: &mut L,
     ) -> Result<(), Trouble> {
-        let [chip, cycles] = words else {
-            return Err(wrong_count().into());
+        let (chip, cycles) = match words {
+            [chip, cycles] => (chip, cycles),
+            _ => return Err(wrong_count().into()),
         };
         let cycles = number_of(cycles)?;
-        let Some(board) = self.board.as_mut() else {
-            return Err("no start before this line".to_string().into());
+        let board = match self.board.as_mut() {
+            Some(board) => board,
+            None => return Err("no start before this line".to_string().into()),
         };
         let (number, count) = match *chip {
             b"6846" => {

@@ -1,12 +1,21 @@
 //! Prints the size and place of every field of the record, one to a line: ctest/layout.c prints the same of the header.
 
-use std::mem::{align_of, offset_of, size_of};
+use std::mem::{align_of, size_of, MaybeUninit};
+use std::ptr::addr_of;
 use vindoshaka::raw::*;
+
+macro_rules! place_of {
+    ($type:ident, $field:ident) => {{
+        let it = MaybeUninit::<$type>::uninit();
+        // SAFETY: addresses in a value that is there; nothing of it is read.
+        unsafe { addr_of!((*it.as_ptr()).$field) as usize - it.as_ptr() as usize }
+    }};
+}
 
 macro_rules! fields {
     ($name:literal, $type:ident, $($field:ident),+) => {
         println!("{} {} {}", $name, size_of::<$type>(), align_of::<$type>());
-        $(println!("{}.{} {} {}", $name, stringify!($field), offset_of!($type, $field), size_of_field(|it: &$type| &it.$field));)+
+        $(println!("{}.{} {} {}", $name, stringify!($field), place_of!($type, $field), size_of_field(|it: &$type| &it.$field));)+
         // A pattern with no `..`: a field that is not named here does not compile.
         let _ = |it: $type| { let $type { $($field: _),+ } = it; };
     };

@@ -363,9 +363,12 @@ impl Seen {
 
 fn main() -> ExitCode {
     let arguments: Vec<_> = std::env::args_os().skip(1).collect();
-    let [path] = arguments.as_slice() else {
-        eprintln!("usage: coverage FILE");
-        return ExitCode::from(2);
+    let path = match arguments.as_slice() {
+        [path] => path,
+        _ => {
+            eprintln!("usage: coverage FILE");
+            return ExitCode::from(2);
+        }
     };
     let text = match std::fs::read(path) {
         Ok(text) => text,

@@ -7,9 +7,12 @@ use std::process::ExitCode;
 
 fn main() -> ExitCode {
     let arguments: Vec<_> = std::env::args_os().skip(1).collect();
-    let [path] = arguments.as_slice() else {
-        eprintln!("usage: second FILE");
-        return ExitCode::from(2);
+    let path = match arguments.as_slice() {
+        [path] => path,
+        _ => {
+            eprintln!("usage: second FILE");
+            return ExitCode::from(2);
+        }
     };
     let text = match std::fs::read(path) {
         Ok(text) => text,
