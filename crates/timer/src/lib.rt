@@ -2,6 +2,7 @@
 ghost use mathlib.Core.Path.{_≡_};
 ghost use mathlib.Core.Bool.{_&&_, not, true, false};
 ghost use Rattle.timer.specs.Fields.{msb, lsb, withDivider, withFlag, withLevel, withRunning, withMarks, withInputs};
+ghost use Rattle.timer.specs.Quick.{plain, plainClock, plainCycle};
 ghost use Rattle.timer.specs.Rules.{modeOf, ticks, dividerAfter, passes, held, settled, initialised, started, caught, written, latchWritten, fell, loads, rose, gated, enabled, fallen, shaped, lastRow, levelAfter, timedOut, countedDown, edged, reaches, freeCycle, cycleOf, pinOf, controlWritten, armedBy, msbRead, asks, resetState, fits};
 
 // What a timer keeps from cycle to cycle.
@@ -12,12 +13,12 @@ pub struct Timer {
     pub control: u8,
     pub divider: u8,
     pub flag: bool,
-    pub armed: bool,
     pub level: bool,
-    pub running: bool,
     // the marks "counted" and "timed out"
     pub counted: bool,
     pub lapsed: bool,
+    pub armed: bool,
+    pub running: bool,
     // the gate's and the clock's level in the cycle before
     pub gate: bool,
     pub clock: bool,
@@ -379,14 +380,66 @@ impl Timer {
         t
     }
 
-    // One cycle: gate edges, then clocks; held by internal reset, neither.
-    pub fn cycle(mut self, s: Setting, gate: bool, clock: bool) -> Timer
+    // One cycle as document 01 has it: gate edges, then clocks; held by internal reset, neither.
+    pub fn full_cycle(mut self, s: Setting, gate: bool, clock: bool) -> Timer
         ensures { λ r. ⌜ r ≡ cycleOf s gate clock self ⌝ }
     {
         if s.held {
             return self.hold().sampled(gate, clock);
         }
         self.free_cycle(s, mode_of(s, self.control), gate, clock)
+    }
+
+    // Continuous, 16-bit and undivided, with no gate edge.
+    fn plain(self, s: Setting, gate: bool) -> bool
+        ensures { λ r. ⌜ r ≡ plain s gate self ⌝ }
+    {
+        !s.held
+            & !s.divided
+            & !s.dual
+            & (self.control / 8 % 2 == 0)
+            & (self.control / 32 % 2 == 0)
+            & (self.gate == gate)
+    }
+
+    fn plain_clock(mut self) -> Timer
+        ensures { λ r. ⌜ r ≡ plainClock self ⌝ }
+    {
+        self.counted = true;
+        if self.counter == 0 {
+            self.counter = self.latch;
+            self.level = !self.level;
+            self.flag = true;
+            self.lapsed = true;
+            return self;
+        }
+        self.counter = self.counter - 1;
+        self
+    }
+
+    fn plain_cycle(mut self, gate: bool, clock: bool) -> Timer
+        ensures { λ r. ⌜ r ≡ plainCycle gate clock self ⌝ }
+    {
+        let counts = self.ticked(clock) & !gate;
+        self.divider = 0;
+        self.clock = clock;
+        if counts {
+            return self.plain_clock();
+        }
+        self
+    }
+
+    // One cycle, the quick way where it is plain. The rest works on copies, so that what is plain stays in registers.
+    pub fn cycle(mut self, s: Setting, gate: bool, clock: bool) -> Timer
+        ensures { λ r. ⌜ r ≡ cycleOf s gate clock self ⌝ }
+    {
+        if self.plain(s, gate) {
+            return self.plain_cycle(gate, clock);
+        }
+        let t = self;
+        let setting = s;
+        let next = t.full_cycle(setting, gate, clock);
+        next
     }
 
     // 000, and 001 on the 6840, begin anew with the latch; 010 and 011 do not.
@@ -495,11 +548,11 @@ impl Timer {
             control: control,
             divider: 0,
             flag: false,
-            armed: false,
             level: false,
-            running: false,
             counted: false,
             lapsed: false,
+            armed: false,
+            running: false,
             gate: gate,
             clock: clock,
         }

@@ -1,16 +1,15 @@
--- `timer::Timer::cycle` meets its contract: each answer follows from the tests and calls on its way. Assumes nothing.
+-- `timer::Timer::cycle` meets its contract: the quick way by its law, the rest by `full_cycle`. Assumes nothing.
 use borrow.Author.Needs.{needs}
-use Rattle.timer.specs.Rules.{cycleOf}
+use mathlib.Core.Path.{sym, _∙_}
+use Rattle.timer.proofs.Quick.{quick-cycle}
 use Rattle.timer.proofs.Timer.cycle.Statement.{statement}
 use Rattle.timer.proofs.Timer.cycle.Tie as tie
 
 returns : tie.Need-returns
-unfolding cycleOf
-returns c = simp (c .sampled .ensures, c .before .hold .ensures, c .before .before .if1 .taken)
+returns c = c .plain-cycle .ensures ∙ sym (quick-cycle _ _ _ _ (sym (c .before .before .plain .ensures) ∙ c .before .if1 .taken))
 
 returns-2 : tie.Need-returns-2
-unfolding cycleOf
-returns-2 c = simp (c .free-cycle .ensures, c .before .mode-of .ensures, c .before .before .if1 .left)
+returns-2 c = c .full-cycle .ensures
 
 pub cycle-spec : {M : Type 1} → statement M
-cycle-spec = tie.close (tie.spec (search needs) (search needs) returns (search needs) (search needs) returns-2)
+cycle-spec = tie.close (tie.spec (search needs) (search needs) returns (search needs) returns-2)
