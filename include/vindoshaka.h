@@ -1,7 +1,7 @@
 /*
  * vindoshaka.h: an MC6846 (ROM, port, timer) and an MC6840 (three timers) on one board, cycle by cycle.
  *
- * Link libvindoshaka.a. The library keeps nothing, allocates nothing and calls nothing; every call returns, whatever the
+ * Link libvindoshaka.a. The library keeps nothing, allocates nothing and calls nothing but memcpy and memset; every call returns, whatever the
  * record, the lists and the counts hold. Calls on different boards may run at the same time.
  *
  * C11 and C++11.
@@ -38,11 +38,11 @@ typedef struct vindoshaka_timer {
     uint8_t control; /* TCR, CR1, CR2 or CR3 */
     uint8_t divider; /* the divider by 8: 0 to 7 */
     bool flag;
-    bool armed; /* a status read saw the flag */
     bool level; /* the output level, also while bit 7 keeps it from the pin */
-    bool running; /* an interval is measured */
     bool counted; /* the marks "counted" and "timed out" */
     bool lapsed;
+    bool armed; /* a status read saw the flag */
+    bool running; /* an interval is measured */
     bool gate; /* the levels of the cycle before */
     bool clock;
 } vindoshaka_timer;
@@ -56,7 +56,7 @@ typedef struct vindoshaka_combo {
     uint8_t ddr;
     uint8_t pdr;
     uint8_t capture; /* the levels of P that a CP1 edge captured */
-    uint8_t pins;    /* the levels of P in the cycle before */
+    uint8_t pins;    /* the levels of P that the last cycle sampled */
     bool flag1;      /* CP1 */
     bool armed1;
     bool flag2; /* CP2 */
@@ -65,8 +65,11 @@ typedef struct vindoshaka_combo {
     bool touched; /* a PDR access in the last cycle, and in the one before it */
     bool strobed;
     bool raised; /* flag 1 was set after the last cycle's edges */
-    bool cp1;    /* the levels of the cycle before */
+    bool cp1;    /* the levels that the last cycle sampled */
     bool cp2;
+    bool before1; /* CP1 and CP2 in the cycle before that */
+    bool before2;
+    bool driven; /* the level of CP2 as an output */
 } vindoshaka_combo;
 
 /* The MC6840. */
@@ -84,26 +87,6 @@ typedef struct vindoshaka_select {
     uint8_t extra; /* 0 for none, or the address line 7 to 10 that must be 1 */
 } vindoshaka_select;
 
-/* The input levels held until the chip's next event. */
-typedef struct vindoshaka_levels6846 {
-    uint8_t pins;
-    bool cp1;
-    bool cp2;
-    bool gate;
-    bool clock;
-    bool reset;
-} vindoshaka_levels6846;
-
-typedef struct vindoshaka_levels6840 {
-    bool c1;
-    bool c2;
-    bool c3;
-    bool g1;
-    bool g2;
-    bool g3;
-    bool reset;
-} vindoshaka_levels6840;
-
 /* The ring of CTO changes that the 6840 has not yet seen: the oldest one's place, and how many wait. */
 typedef struct vindoshaka_ends {
     uint32_t first;
@@ -119,8 +102,8 @@ typedef struct vindoshaka_board {
     uint8_t wire; /* 0 for none, or the clock input 1 to 3 that hears CTO */
     vindoshaka_combo combo;
     vindoshaka_ptm ptm;
-    vindoshaka_levels6846 levels6846;
-    vindoshaka_levels6840 levels6840;
+    uint32_t levels6846; /* the input levels held until the chip's next event, as an event's word has them */
+    uint32_t levels6840;
     uint32_t stamp6846; /* the stamp of each chip's last cycle */
     uint32_t stamp6840;
     vindoshaka_ends ends;

@@ -38,16 +38,13 @@ static void start_by_fields(void) {
     fresh_timer(&b->combo.timer, 1);
     EXPECT(b->combo.msb == 0 && b->combo.lsb == 0 && b->combo.pcr == 128 && b->combo.ddr == 0 && b->combo.pdr == 0);
     EXPECT(b->combo.capture == 0 && b->combo.pins == 255 && !b->combo.flag1 && !b->combo.armed1 && !b->combo.flag2);
-    EXPECT(!b->combo.armed2 && !b->combo.captured && !b->combo.touched && !b->combo.strobed && !b->combo.raised);
+    EXPECT(!b->combo.armed2 && !b->combo.captured && !b->combo.touched && !b->combo.strobed && !b->combo.raised && !b->combo.driven);
     EXPECT(b->combo.cp1 && b->combo.cp2);
     fresh_timer(&b->ptm.timers[0], 1);
     fresh_timer(&b->ptm.timers[1], 0);
     fresh_timer(&b->ptm.timers[2], 0);
     EXPECT(b->ptm.msb == 0 && b->ptm.lsb == 0);
-    EXPECT(b->levels6846.pins == 255 && b->levels6846.cp1 && b->levels6846.cp2 && b->levels6846.gate);
-    EXPECT(b->levels6846.clock && b->levels6846.reset);
-    EXPECT(b->levels6840.c1 && b->levels6840.c2 && b->levels6840.c3 && b->levels6840.g1 && b->levels6840.g2);
-    EXPECT(b->levels6840.g3 && b->levels6840.reset);
+    EXPECT(b->levels6846 == 8191 && b->levels6840 == 127);
     EXPECT(b->stamp6846 == 0x12345678u && b->stamp6840 == 0x12345678u);
     EXPECT(b->ends.first == 0 && b->ends.waiting == 0 && b->done6846 == 0 && b->done6840 == 0);
     for (int i = 0; i < 64; i++) EXPECT(b->places[i] == 0);

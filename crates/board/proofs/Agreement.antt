@@ -1,20 +1,19 @@
 -- Demand 3, proved: the calls of the board are those of the two machines of the crate `wire`, and what holds there holds here.
 use Prim.Native.Nat.{ℕ, zero, suc, _+_, _/_, _%_, _^_, _≤_, _<_, zero-le}
 use mathlib.Core.Path.{_≡_, refl, ap, sym, _∙_}
-use mathlib.Core.Bool.{Bool, true, false, not, cond, _&&_, _||_}
+use mathlib.Core.Bool.{Bool, true, false, not, _||_}
 use mathlib.Core.List.{List, [], _∷_}
 use native.Mathlib.Omega.{arith}
 use lib.ListN.{length, replicate, length-replicate}
-use lib.Dec.{leb, eqb}
+use lib.Dec.{eqb}
 use borrow.Author.Tests.{le-leb, eq-eqb}
 use Rattle.wire.specs.Stamp.{gap, inReach}
-use Rattle.wire.specs.Order.{inOrder}
-use Rattle.wire.specs.Book.{waitingOf, inOrderAt}
 use Rattle.wire.specs.Pair as w
 use Rattle.wire.specs.Lockstep as step
 use Rattle.wire.proofs.Ring.{waiting-length, none-waits}
 use Rattle.wire.proofs.Order.{in-order-at}
 use Rattle.wire.proofs.Wrap.{gap-count}
+use Rattle.wire.proofs.Model.{fresh-is as fresh-board, run-none, run-more, level-is, driver-start, driver-next, listener-start, listener-next, at-driver, at-listener, at-driver-stamp, at-listener-stamp}
 use Rattle.wire.proofs.Cycle.{fresh-is, fresh-allowed}
 use Rattle.wire.proofs.Calls.{resumed, stopped, driver-moved, listener-moved}
 use Rattle.wire.proofs.Reached.{call-keeps, reached, at-one, agrees-in-range, commute}
@@ -22,13 +21,12 @@ use Rattle.wire.proofs.Progress.{progress, meeting}
 use Rattle.mc6846.specs.Cycle.{ctoOf}
 use Rattle.mc6846.proofs.Laws as combo
 use Rattle.mc6840.proofs.Laws as ptm
-use Rattle.board.specs.declared.Outcome.the-variants.{Done}
-use Rattle.board.specs.declared.Moved.{Moved}
-use Rattle.board.specs.Record.{legal, wiredBy, freshOf, startOf, optionsFit, bookFits, inRanges}
-use Rattle.board.specs.Calls.{Result, result, listFits, given6846, begun6846, put6846, after6846, moved6846, move6846, given6840, begun6840, put6840, after6840, moved6840, move6840}
-use Rattle.board.specs.Cycle6846 as c6846
-use Rattle.board.specs.Cycle6840 as c6840
-use Rattle.board.specs.Agreement.{Setup, Chip, the6846, the6840, Call, Host, Returned, Side6846, Side6840, selectOf, fresh, returned6846, returned6840, calledOn, after, by6846, by6840, together, lockstep, stampAt, NoneBad, Meet, Same, Agreement, Does, Progress, Meeting}
+use Rattle.outcomes.specs.declared.Outcome.the-variants.{Done}
+use Rattle.board.specs.Record.{wiredBy, freshOf, startOf, optionsFit, bookFits, inRanges}
+use Rattle.board.specs.Calls.{listFits, given6846, begun6846, put6846, after6846, moved6846, move6846, given6840, begun6840, put6840, after6840, moved6840, move6840}
+use Rattle.mover6846.specs.Cycle as c6846
+use Rattle.mover6840.specs.Cycle as c6840
+use Rattle.board.specs.Agreement.{Setup, Chip, the6846, the6840, Call, Host, Returned, Side6846, Side6840, selectOf, fresh, calledOn, after, together, lockstep, stampAt, NoneBad, Meet, Agreement, Does, Progress, Meeting}
 use Rattle.board.proofs.Pair.{pair, held, side6846, side6840, Keeps}
 use Rattle.board.proofs.Sim6846 as s6846
 use Rattle.board.proofs.Sim6840 as s6840
@@ -73,7 +71,7 @@ module _ (S : Setup) where
 
     -- so that a call does its cycles
     abbrev world6846 : c6846.World
-    world6846 = c6846.world (begun6846 (h .board)) (h .answers6846) (h .board .places)
+    world6846 = c6846.world (begun6846 (h .board)) (h .answers6846) (h .board .places) Done
 
     given-is6846 : given6846 (h .board) ≡ record { select = selectOf S; wired = wiredBy (S .wire); other = h .board .stamp6840 }
     unfolding given6846
@@ -94,7 +92,7 @@ module _ (S : Setup) where
         )
 
     abbrev world6840 : c6840.World
-    world6840 = c6840.world (begun6840 (h .board)) (h .answers6840)
+    world6840 = c6840.world (begun6840 (h .board)) (h .answers6840) Done
 
     given-is6840 : given6840 (h .board) ≡ record { wire = S .wire; wired = wiredBy (S .wire); other = h .board .stamp6846; cto = ctoOf (h .board .combo) }
     unfolding given6840
@@ -204,8 +202,8 @@ module _ (S : Setup) where
   })
 
   fresh-held : held S (fresh S) ≡ w.fresh (pair S)
-  unfolding fresh freshOf w.fresh lockstep
-  fresh-held = rw (start-is, none-waits (replicate 64 0) 0)
+  unfolding fresh freshOf lockstep
+  fresh-held = rw (fresh-board (pair S), start-is, none-waits (replicate 64 0) 0)
 
   fresh-agrees : step.Agrees (pair S) 0 0 (held S (fresh S))
   fresh-agrees = rw fresh-held (record { allowed = fresh-allowed (pair S); same = fresh-is (pair S) })
@@ -213,12 +211,13 @@ module _ (S : Setup) where
   -- calls, one after the other
   after-calls : (cs : List Call) (h : Host) (a b : ℕ) → Keeps S h → step.Agrees (pair S) a b (held S h) →
       (held S (after S cs h) ≡ w.run (pair S) (wires cs) (held S h)) × Keeps S (after S cs h)
-  unfolding after wires w.run
-  after-calls [] h a b k g = (refl, k)
+  unfolding after wires
+  after-calls [] h a b k g = (sym (run-none (pair S) (held S h)), k)
   after-calls (c ∷ cs) h a b k g =
       let t = calls h k (agrees-in-range (pair S) a b (held S h) g) (c .chip) (c .cycles) in
       let i = after-calls cs (calledOn S (c .chip) (c .cycles) h .host) _ _ (t .2) (rw (← (t .0)) at (call-keeps (pair S) (machine (c .chip)) (c .cycles) a b (held S h) g)) in
-      (i .0 ∙ ap (w.run (pair S) (wires cs)) (t .0), i .1)
+      let c′ : w.Call = record { chip = machine (c .chip); cycles = c .cycles } in
+      (i .0 ∙ ap (w.run (pair S) (wires cs)) (t .0) ∙ sym (run-more (pair S) c′ (wires cs) (held S h)), i .1)
 
   -- whatever the calls, the board is in agreement
   module _ (cs : List Call) where
@@ -249,18 +248,20 @@ module _ (S : Setup) where
 
     -- the stamps are those of the cycles done
     stamp46 : now .board .stamp6846 ≡ stampAt S done6846
-    unfolding step.boardAt
-    stamp46 = ap (λ (b : w.Board (pair S)). b .driverStamp) (now-agrees .same)
+    stamp46 = ap (λ (b : w.Board (pair S)). b .driverStamp) (now-agrees .same) ∙ at-driver-stamp (pair S) done6846 done6840
 
     stamp40 : now .board .stamp6840 ≡ stampAt S done6840
-    unfolding step.boardAt
-    stamp40 = ap (λ (b : w.Board (pair S)). b .listenerStamp) (now-agrees .same)
+    stamp40 = ap (λ (b : w.Board (pair S)). b .listenerStamp) (now-agrees .same) ∙ at-listener-stamp (pair S) done6846 done6840
 
   -- lockstep is the lockstep of the crate `wire`
   lockstep-is : (n : ℕ) → (lockstep S n .side6846 ≡ step.driverAt (pair S) n) × (lockstep S n .side6840 ≡ step.listenerAt (pair S) n)
-  unfolding lockstep together step.driverAt step.listenerAt w.level
-  lockstep-is zero = (refl, refl)
-  lockstep-is (suc n) = let i = lockstep-is n in (ap (pair S .drive (stampAt S n)) (i .0), rw (i .0, i .1))
+  unfolding lockstep together
+  lockstep-is zero = (sym (driver-start (pair S)), sym (listener-start (pair S)))
+  lockstep-is (suc n) =
+      let i = lockstep-is n in (
+        ap (pair S .drive (stampAt S n)) (i .0) ∙ sym (driver-next (pair S) n),
+        rw (listener-next (pair S) n, level-is (pair S) (step.driverAt (pair S) n), ← (i .0), ← (i .1)),
+      )
 
   -- THE AGREEMENT. Whenever both chips have reached the same cycle, both chips and all answers are those of a board that moves both
   -- chips together, one cycle at a time: as many as either chip has done.
@@ -284,10 +285,11 @@ module _ (S : Setup) where
   -- repeated, whatever the other chip did in between, goes on where it stood.
   pub on-its-own : (cs : List Call) → let h = after S cs (fresh S) in
       (side6846 S h ≡ lockstep S (done6846 cs) .side6846) × (side6840 S h ≡ lockstep S (done6840 cs) .side6840)
-  unfolding step.boardAt
   on-its-own cs =
-      let e = now-agrees cs .same in
-      (ap (λ (b : w.Board (pair S)). b .driver) e ∙ sym (lockstep-is (done6846 cs) .0), ap (λ (b : w.Board (pair S)). b .listener) e ∙ sym (lockstep-is (done6840 cs) .1))
+      let e = now-agrees cs .same in (
+        ap (λ (b : w.Board (pair S)). b .driver) e ∙ at-driver (pair S) (done6846 cs) (done6840 cs) ∙ sym (lockstep-is (done6846 cs) .0),
+        ap (λ (b : w.Board (pair S)). b .listener) e ∙ at-listener (pair S) (done6846 cs) (done6840 cs) ∙ sym (lockstep-is (done6840 cs) .1),
+      )
 
   good : NoneBad S → step.Good (pair S)
   good g = record {
@@ -321,17 +323,19 @@ module _ (S : Setup) where
   pub progresses : Progress S
   progresses g cs = let p = progress (pair S) (good g) (wires cs) in moves cs (p .0) (p .1) (rw (now-run cs) (p .2))
 
+  -- a board that lockstep reaches has its chips at one stamp
+  at-one-stamp : {b : w.Board (pair S)} (n : ℕ) → b ≡ step.boardAt (pair S) n n → b .driverStamp ≡ b .listenerStamp
+  at-one-stamp n e =
+      (ap (λ (b : w.Board (pair S)). b .driverStamp) e ∙ at-driver-stamp (pair S) n n) ∙
+      sym (ap (λ (b : w.Board (pair S)). b .listenerStamp) e ∙ at-listener-stamp (pair S) n n)
+
   -- MEETING. At every moment, one call of one chip brings the two to the same cycle.
   meets-by : (cs : List Call) (c : w.Chip) (k n : ℕ) → let h = after S cs (fresh S) in
       w.called (pair S) c k (held S h) ≡ record { board = step.boardAt (pair S) n n; number = 0; count = k } →
       (c : Call) × Meet S (calledOn S (c .chip) (c .cycles) h .host)
-  unfolding machine step.boardAt
-  meets-by cs w.driver k n e =
-      let b = now-calls cs the6846 k .0 ∙ ap (λ (q : w.Called (pair S)). q .board) e in
-      (record { chip = the6846; cycles = k }, ap (λ (b : w.Board (pair S)). b .driverStamp) b ∙ sym (ap (λ (b : w.Board (pair S)). b .listenerStamp) b))
-  meets-by cs w.listener k n e =
-      let b = now-calls cs the6840 k .0 ∙ ap (λ (q : w.Called (pair S)). q .board) e in
-      (record { chip = the6840; cycles = k }, ap (λ (b : w.Board (pair S)). b .driverStamp) b ∙ sym (ap (λ (b : w.Board (pair S)). b .listenerStamp) b))
+  unfolding machine
+  meets-by cs w.driver k n e = (record { chip = the6846; cycles = k }, at-one-stamp n (now-calls cs the6846 k .0 ∙ ap (λ (q : w.Called (pair S)). q .board) e))
+  meets-by cs w.listener k n e = (record { chip = the6840; cycles = k }, at-one-stamp n (now-calls cs the6840 k .0 ∙ ap (λ (q : w.Called (pair S)). q .board) e))
 
   pub meets : Meeting S
   meets g cs = let p = meeting (pair S) (good g) (wires cs) in meets-by cs (p .0 .chip) (p .0 .cycles) (p .1) (rw (now-run cs) (p .2))

@@ -1,4 +1,3 @@
-pub mod Run
 pub mod Options
 pub mod Table
 pub mod Pair

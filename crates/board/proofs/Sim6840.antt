@@ -8,27 +8,31 @@ use lib.Dec.{eqb}
 use borrow.Author.Tests.{eqb-true}
 use Rattle.wire.specs.Stamp.{nextStamp, listenerWaits}
 use Rattle.wire.specs.Order.{laterThan, heardOf}
-use Rattle.wire.specs.Book.{waitingOf, leftOf}
+use Rattle.wire.specs.Book.{waitingOf, leftOf, heardAt}
 use Rattle.wire.specs.Pair as w
+use Rattle.wire.proofs.Model.{level-is, listener-cycle, called-none, called-more, goes-done, goes-refused}
 use Rattle.wire.proofs.Ring.{left-waits}
 use Rattle.mc6846.specs.Cycle.{ctoOf}
-use Rattle.mc6840.specs.declared.Levels.{Levels}
-use Rattle.mc6840.specs.declared.Access.{Access}
+use Rattle.signals.specs.declared.m6840.Levels.{Levels}
+use Rattle.signals.specs.Words6840.{levelsOf, accessOf, badEvent, wiredOf}
+use Rattle.signals.proofs.Laws.{wired-none}
 use Rattle.mc6840.specs.declared.Done.{Done as Ran}
-use Rattle.mc6840.specs.Events.{wiredOf}
 use Rattle.mc6840.specs.Rules.{cycleOf, inRange}
-use Rattle.mc6840.proofs.Laws.{cycle-in-range, wired-none}
-use Rattle.board.specs.declared.mover6840.Given6840.{Given6840}
-use Rattle.board.specs.declared.Outcome.the-variants.{Done, BadEvent, MustWait}
-use Rattle.board.specs.declared.events.Next6840.{Next6840}
-use Rattle.board.specs.declared.events.Next6840.the-variants as n6840
-use Rattle.board.specs.Run.{run}
-use Rattle.board.specs.Numbers.{numberOf, goes}
+use Rattle.mc6840.proofs.Laws.{cycle-in-range}
+use Rattle.mover6840.specs.declared.Given6840.{Given6840}
+use Rattle.outcomes.specs.declared.Outcome.the-variants.{Done, MustWait}
+use Rattle.lists.specs.declared.Next.{Next}
+use Rattle.lists.specs.declared.Next.the-variants.{Cycle, Bad}
+use Rattle.lists.specs.Events.{answered}
+use Rattle.outcomes.specs.Numbers.{numberOf, goes}
+use Rattle.outcomes.proofs.Laws.{goes-done as goes-on-done, done-number}
 use Rattle.board.specs.Record.{wiredBy}
-use Rattle.board.specs.Cycle6840.{World, world, stopped, moved, seen, cycled, nextBy, stepOf, going, runOf}
-use Rattle.board.specs.Agreement.{Setup, Side6846, Side6840, bad6840, by6840, nextOf6840}
-use Rattle.board.proofs.Run.{run-one, run-stopped}
-use Rattle.board.proofs.Pair.{stopOf, stop-number, stop-stops, answered-length, Within6840, within6840, pair}
+use Rattle.mover6840.specs.Cycle.{World, world, nextBy, stepOf, going, runOf}
+use Rattle.mover6840.proofs.Steps.{step-is, next-bad, next-cycle}
+use Rattle.board.specs.Agreement.{Setup, Side6846, Side6840, badNext, by6840, nextOf6840}
+use Rattle.lists.proofs.Run.{run-none, run-one, run-stopped}
+use Rattle.lists.proofs.Laws.{answered-length, Within, next-within}
+use Rattle.board.proofs.Pair.{stopOf, stop-number, stop-stops, pair}
 
 -- without a wire the level on it does not matter
 pub wired-or-none : (wire : ℕ) (f : Bool → Bool) (level : Bool) (l : Levels) → wiredOf wire (f (wiredBy wire && level)) l ≡ wiredOf wire (f level) l
@@ -62,14 +66,14 @@ module _ (S : Setup) (other : ℕ) (x : Side6846) (ps : List ℕ) where
 
   -- what a step of the run comes to, beside a cycle of the listener
   abbrev Steps : w.Cycled (pair S) → World → World → Type 0
-  Steps (w.done v) u t = (inMove t ≡ v) × (t .run .outcome ≡ Done) × Sound t
-  Steps (w.refused s) u t = t ≡ world (stopped (stopOf s) (u .run)) (u .answers)
+  Steps (w.done v) u t = (inMove t ≡ v) × (t .outcome ≡ Done) × Sound t
+  Steps (w.refused s) u t = t ≡ world (u .run) (u .answers) (stopOf s)
 
   -- the listener's cycle, by the next event
   abbrev heard : World → Bool
   heard u = heardOf (u .run .stamp) (waitingOf ps (u .run .ends)) (w.level (pair S) x)
 
-  abbrev listened : Next6840 → World → w.Board (pair S)
+  abbrev listened : Next → World → w.Board (pair S)
   listened nx u = record {
     driver = x;
     listener = by6840 S (heard u) nx (side u);
@@ -78,32 +82,38 @@ module _ (S : Setup) (other : ℕ) (x : Side6846) (ps : List ℕ) where
     book = laterThan (u .run .stamp) (waitingOf ps (u .run .ends));
   }
 
-  abbrev cycleBy : Next6840 → World → w.Cycled (pair S)
+  abbrev cycleBy : Next → World → w.Cycled (pair S)
   cycleBy nx u =
-      cond (bad6840 nx) (w.refused w.bad)
+      cond (badNext nx) (w.refused w.bad)
       (cond (listenerWaits (u .run .stamp) other (wiredBy (S .wire))) (w.refused w.waits) (w.done (listened nx u)))
 
   cycle-by : (u : World) → w.cycle (pair S) w.listener (inMove u) ≡ cycleBy (nextOf6840 S (u .run .stamp) (side u)) u
-  unfolding w.cycle w.listened bad6840 w.stopIf
-  cycle-by u = refl
+  cycle-by u = listener-cycle (pair S) (inMove u)
 
   -- with the next event taken apart, and the cycle done by the chip
-  module _ (u : World) (o : u .run .outcome ≡ Done) (k : Sound u) (l : Levels) (a : Access) (d : ℕ) (q : d ≤ length (S .events6840) / 3) where
+  module _ (u : World) (o : u .outcome ≡ Done) (k : Sound u) (l a d : ℕ) (q : d ≤ length (S .events6840) / 3) where
     abbrev ran : Bool → Ran
-    ran level = cycleOf (wiredOf (S .wire) level l) a (u .run .chip)
+    ran level = cycleOf (wiredOf (S .wire) level (levelsOf l)) (accessOf a) (u .run .chip)
+
+    -- the cycle done, by what the chip sees
+    abbrev next : Bool → World
+    next level =
+        world (record { chip = ran level .chip; levels = l; stamp = nextStamp (u .run .stamp); done = d; ends = leftOf ps (u .run .ends) (u .run .stamp) })
+        (answered (u .answers) (u .run .done) d (ran level .answer)) (u .outcome)
 
     -- what the chip sees is what the listener hears
-    seen-is : seen given ps (u .run) l ≡ wiredOf (S .wire) (heard u) l
-    unfolding seen w.level
-    seen-is = sym (wired-or-none (S .wire) (heardOf (u .run .stamp) (waitingOf ps (u .run .ends))) (ctoOf (x .chip)) l)
+    seen-is : wiredOf (S .wire) (heardAt ps (u .run .ends) (u .run .stamp) (ctoOf (x .chip))) (levelsOf l) ≡ wiredOf (S .wire) (heard u) (levelsOf l)
+    seen-is =
+        rw (level-is (pair S) x)
+        (sym (wired-or-none (S .wire) (heardOf (u .run .stamp) (waitingOf ps (u .run .ends))) (ctoOf (x .chip)) (levelsOf l)))
 
-    finish : Steps (w.done (listened (n6840.Cycle l a d) u)) u (cycled ps l d (ran (heard u)) u)
-    unfolding cycled moved by6840
+    finish : Steps (w.done (listened (Cycle l a d) u)) u (next (heard u))
+    unfolding by6840
     finish = (
       rw (left-waits ps (u .run .ends) (u .run .stamp)),
       o,
       record {
-        chip = cycle-in-range (wiredOf (S .wire) (heard u) l) a (u .run .chip) (k .chip);
+        chip = cycle-in-range (wiredOf (S .wire) (heard u) (levelsOf l)) (accessOf a) (u .run .chip) (k .chip);
         done = q;
         answers = answered-length (u .answers) (u .run .done) d (ran (heard u) .answer) ∙ k .answers;
       },
@@ -111,45 +121,47 @@ module _ (S : Setup) (other : ℕ) (x : Side6846) (ps : List ℕ) where
 
     -- 6, or the cycle is done
     by-wait : (b : Bool) →
-        Steps (cond b (w.refused w.waits) (w.done (listened (n6840.Cycle l a d) u))) u
-        (cond b (world (stopped MustWait (u .run)) (u .answers)) (cycled ps l d (cycleOf (seen given ps (u .run) l) a (u .run .chip)) u))
+        Steps (cond b (w.refused w.waits) (w.done (listened (Cycle l a d) u))) u
+        (cond b (world (u .run) (u .answers) MustWait) (next (heardAt ps (u .run .ends) (u .run .stamp) (ctoOf (x .chip)))))
     unfolding stopOf
     by-wait true = refl
     by-wait false = rw seen-is finish
 
-  step-by : (u : World) → u .run .outcome ≡ Done → Sound u → (nx : Next6840) → Within6840 (length (S .events6840) / 3) nx →
+  step-by : (u : World) → u .outcome ≡ Done → Sound u → (nx : Next) → Within (length (S .events6840) / 3) nx →
       Steps (cycleBy nx u) u (nextBy given ps u nx)
-  unfolding bad6840 nextBy stopOf
-  step-by u o k (n6840.Cycle l a d) q = by-wait u o k l a d q (listenerWaits (u .run .stamp) other (wiredBy (S .wire)))
-  step-by u o k n6840.Bad q = refl
+  unfolding badNext stopOf
+  step-by u o k (Cycle l a d) q = rw (next-cycle given ps (S .events6840) u l a d) (by-wait u o k l a d q (listenerWaits (u .run .stamp) other (wiredBy (S .wire))))
+  step-by u o k Bad q = next-bad given ps (S .events6840) u
 
-  step : (u : World) → u .run .outcome ≡ Done → Sound u → Steps (w.cycle (pair S) w.listener (inMove u)) u (stepOf given ps (S .events6840) u)
-  unfolding stepOf
-  step u o k = rw (cycle-by u) (step-by u o k _ (within6840 (S .events6840) (u .run .done) (u .run .stamp) (u .run .levels) (k .done)))
+  step : (u : World) → u .outcome ≡ Done → Sound u → Steps (w.cycle (pair S) w.listener (inMove u)) u (stepOf given ps (S .events6840) u)
+  step u o k =
+      rw (cycle-by u, step-is given ps (S .events6840) u)
+      (step-by u o k _ (next-within badEvent (S .events6840) (u .run .done) (u .run .stamp) (u .run .levels) (k .done)))
 
   -- what a run comes to, beside a call of the listener
   abbrev Runs : w.Called (pair S) → World → Type 0
-  Runs q t = (inMove t ≡ q .board) × (numberOf (t .run .outcome) ≡ q .number) × Sound t
+  Runs q t = (inMove t ≡ q .board) × (numberOf (t .outcome) ≡ q .number) × Sound t
 
   abbrev runs : ℕ → World → World
   runs n u = runOf given ps (S .events6840) n u
 
-  stopped-runs : (n : ℕ) (u t : World) (r : w.Stop) → Sound u → t ≡ world (stopped (stopOf r) (u .run)) (u .answers) →
+  stopped-runs : (n : ℕ) (u t : World) (r : w.Stop) → Sound u → t ≡ world (u .run) (u .answers) (stopOf r) →
       Runs (record { board = inMove u; number = w.numberOf r; count = 0 }) (runs n t)
-  unfolding stopped
   stopped-runs n u t r k e =
-      let f : runs n t ≡ world (stopped (stopOf r) (u .run)) (u .answers) = run-stopped going _ n t (rw e (stop-stops r)) ∙ e in
+      let f : runs n t ≡ world (u .run) (u .answers) (stopOf r) = run-stopped going _ n t (rw e (stop-stops r)) ∙ e in
       rw f (refl, stop-number r, record { chip = k .chip; done = k .done; answers = k .answers })
 
-  pub run-sim : (n : ℕ) (u : World) → u .run .outcome ≡ Done → Sound u → Runs (w.called (pair S) w.listener n (inMove u)) (runs n u)
-  unfolding w.called w.goesOn run numberOf goes
-  run-sim zero u o k = (refl, ap numberOf o, k)
+  pub run-sim : (n : ℕ) (u : World) → u .outcome ≡ Done → Sound u → Runs (w.called (pair S) w.listener n (inMove u)) (runs n u)
+  run-sim zero u o k =
+      rw (called-none (pair S) w.listener (inMove u), run-none going (stepOf given ps (S .events6840)) u) (refl, ap numberOf o ∙ done-number, k)
   run-sim (suc n) u o k =
-      rw (run-one going (stepOf given ps (S .events6840)) n u (ap goes o))
+      rw (called-more (pair S) w.listener n (inMove u), run-one going (stepOf given ps (S .events6840)) n u (ap goes o ∙ goes-on-done))
       (go (w.cycle (pair S) w.listener (inMove u)) (step u o k) (run-sim n))
     where
       go : (c : w.Cycled (pair S)) → Steps c u (stepOf given ps (S .events6840) u) →
-          ((v : World) → v .run .outcome ≡ Done → Sound v → Runs (w.called (pair S) w.listener n (inMove v)) (runs n v)) →
+          ((v : World) → v .outcome ≡ Done → Sound v → Runs (w.called (pair S) w.listener n (inMove v)) (runs n v)) →
           Runs (w.goesOn (pair S) (w.called (pair S) w.listener n) (inMove u) c) (runs n (stepOf given ps (S .events6840) u))
-      go (w.done v) s ih = let i = ih _ (s .1) (s .2) in (rw (s .0) at (i .0), rw (s .0) at (i .1), i .2)
-      go (w.refused r) s ih = stopped-runs n u _ r k s
+      go (w.done v) s ih =
+          let i = ih _ (s .1) (s .2) in
+          rw (goes-done (pair S) (w.called (pair S) w.listener n) (inMove u) v) (rw (s .0) at (i .0), rw (s .0) at (i .1), i .2)
+      go (w.refused r) s ih = rw (goes-refused (pair S) (w.called (pair S) w.listener n) (inMove u) r) (stopped-runs n u _ r k s)

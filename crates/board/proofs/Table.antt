@@ -1,7 +1,7 @@
 -- Runs 1 to 12 of document 01, one table: boards, lists, calls, and what is expected where.
-use Prim.Native.Nat.{ℕ, zero, suc, _+_, _-_, _*_, _^_}
+use Prim.Native.Nat.{ℕ, _+_, _-_, _*_, _^_}
 use mathlib.Core.Path.{_≡_, refl}
-use mathlib.Core.Bool.{Bool, true, false, not, cond, _&&_}
+use mathlib.Core.Bool.{Bool, true, false, _&&_}
 use mathlib.Core.List.{List, [], _∷_, _++_}
 use lib.ListN.{length, replicate}
 use lib.Dec.{eqb}
@@ -9,26 +9,25 @@ use Rattle.timer.specs.Rules as t
 use Rattle.wire.specs.Stamp as s
 use Rattle.wire.specs.Order as o
 use Rattle.wire.specs.Book as k
-use Rattle.mc6846.specs.Events as e6
+use Rattle.signals.specs.Words6846 as e6
 use Rattle.mc6846.specs.Port as p6
 use Rattle.mc6846.specs.Registers as r6
 use Rattle.mc6846.specs.Cycle as c6
-use Rattle.mc6840.specs.Events as e0
+use Rattle.signals.specs.Words6840 as e0
 use Rattle.mc6840.specs.Rules as r0
 use Rattle.board.specs.declared.Board.{Board}
 use Rattle.board.specs.declared.Pins.{Pins}
-use Rattle.board.specs.declared.Outcome.the-variants.{Done}
-use Rattle.board.specs.Run.{run}
-use Rattle.board.specs.Numbers.{numberOf, reportNumber, goes}
-use Rattle.board.specs.Events.{dueOf, taken6846, due6846, taken6840, due6840, answered}
-use Rattle.board.specs.Cycle6846 as m6
-use Rattle.board.specs.Cycle6840 as m0
+use Rattle.lists.specs.Run.{run}
+use Rattle.outcomes.specs.Numbers.{numberOf, reportNumber, goes}
+use Rattle.lists.specs.Events.{wordsAt, takenBy, nextOf, answered}
+use Rattle.mover6846.specs.Cycle as m6
+use Rattle.mover6840.specs.Cycle as m0
 use Rattle.board.specs.Record.{legal, freshOf, refusedStart, startOf, optionsFit, bookFits, inRanges, levelsOf, noLevels, reportOf}
 use Rattle.board.specs.Calls.{Result, refused, listFits, given6846, begun6846, put6846, after6846, moved6846, move6846, given6840, begun6840, put6840, after6840, moved6840, move6840}
 
 -- to unfold this is to unfold the whole board
 whole : Bool
-unfolding t.dividerAfter t.modeOf t.initialised t.held t.settled t.written t.latchWritten t.started t.caught t.fell t.loads t.rose t.gated t.fallen t.enabled t.levelAfter t.timedOut t.countedDown t.edged t.reaches t.freeCycle t.cycleOf t.pinIn t.controlWritten t.msbRead s.gap s.signed s.leadOf s.listenerLimit s.inReach s.driverWaits s.listenerWaits o.laterThan o.turned o.heardOf o.spanOf o.rising o.inOrder k.entries k.notedOf k.leftOf k.inOrderAt e6.levelsOf e6.accessOf e6.badAccess e6.eventOf p6.mixed p6.activeEdge p6.cp1Edge p6.cp2Edge p6.capturing p6.flagged p6.acknowledged p6.sampled p6.pdrByte p6.released p6.touchedBy p6.pdrWritten p6.portCleared p6.portSettled p6.cp2Out p6.cp2Of p6.portOf r6.settingOf r6.a6Fits r6.extraFits r6.ioChosen r6.compositeOf r6.weight r6.statusOf r6.registerByte r6.statusRead r6.counterRead r6.afterRead r6.pcrWritten r6.tcrWritten r6.lsbWritten r6.stored r6.timerSettled r6.afterWrite c6.resetOf c6.edged c6.clocked c6.readBy c6.writtenBy c6.accessed c6.transferred c6.resetCycle c6.cycleOf c6.ctoOf c6.inRange e0.levelsOf e0.accessOf e0.eventOf e0.wiredOf r0.settingAt r0.resetOf r0.startOf r0.clocked r0.compositeOf r0.statusOf r0.statusByte r0.armedAll r0.msbReadAt r0.driven r0.afterRead r0.controlAt r0.latchAt r0.controlZero r0.stored r0.settledAll r0.accessed r0.underReset r0.cycleOf r0.outputsOf r0.inRange run numberOf reportNumber goes dueOf taken6846 due6846 taken6840 due6840 answered m6.stopped m6.moved m6.changes m6.noting m6.cycled m6.nextBy m6.stepOf m0.stopped m0.moved m0.seen m0.cycled m0.nextBy m0.stepOf legal freshOf refusedStart startOf optionsFit bookFits inRanges levelsOf noLevels reportOf refused listFits given6846 begun6846 put6846 after6846 moved6846 move6846 given6840 begun6840 put6840 after6840 moved6840 move6840
+unfolding t.dividerAfter t.modeOf t.initialised t.held t.settled t.written t.latchWritten t.started t.caught t.fell t.loads t.rose t.gated t.fallen t.enabled t.levelAfter t.timedOut t.countedDown t.edged t.reaches t.freeCycle t.cycleOf t.pinIn t.controlWritten t.msbRead s.gap s.signed s.leadOf s.listenerLimit s.inReach s.driverWaits s.listenerWaits o.laterThan o.turned o.heardOf o.spanOf o.rising o.inOrder k.entries k.notedOf k.leftOf k.inOrderAt e6.levelsOf e6.accessOf e6.badEvent p6.mixed p6.activeEdge p6.cp1Edge p6.cp2Edge p6.capturing p6.flagged p6.marked p6.pdrByte p6.released p6.touchedBy p6.pdrWritten p6.portCleared p6.portSettled p6.cp2Out p6.cp2Of p6.portOf r6.settingOf r6.a6Fits r6.extraFits r6.ioChosen r6.compositeOf r6.weight r6.statusOf r6.registerByte r6.statusRead r6.counterRead r6.afterRead r6.pcrWritten r6.tcrWritten r6.lsbWritten r6.stored r6.timerSettled r6.afterWrite c6.sampled c6.resetOf c6.edged c6.clocked c6.readBy c6.writtenBy c6.accessed c6.transferred c6.shown c6.resetCycle c6.cycleOf c6.ctoOf c6.inRange e0.levelsOf e0.accessOf e0.badEvent e0.wiredOf r0.settingAt r0.resetOf r0.startOf r0.clocked r0.compositeOf r0.statusOf r0.statusByte r0.armedAll r0.msbReadAt r0.driven r0.afterRead r0.controlAt r0.latchAt r0.controlZero r0.stored r0.settledAll r0.accessed r0.underReset r0.cycleOf r0.outputsOf r0.inRange run numberOf reportNumber goes wordsAt takenBy nextOf answered m6.stopped m6.moved m6.changes m6.notedIf m6.noting m6.cycled m6.nextBy m6.stepOf m0.stopped m0.moved m0.seen m0.cycled m0.nextBy m0.stepOf legal freshOf refusedStart startOf optionsFit bookFits inRanges levelsOf noLevels reportOf refused listFits given6846 begun6846 put6846 after6846 moved6846 move6846 given6840 begun6840 put6840 after6840 moved6840 move6840
 whole = true
 
 -- a step of a case: a call with the number and the count that it returns; or both chips moved by some cycles, and the report
@@ -261,8 +260,8 @@ run11 stamp event number count answer = record {
 apart : ℕ → ℕ → Board
 apart a b =
     let f = startOf 0 1 0 0 0 0 .board in
-    put6840 (record { chip = f .ptm; levels = f .levels6840; stamp = b; done = 0; ends = f .ends; outcome = Done })
-    (put6846 (record { chip = f .combo; levels = f .levels6846; stamp = a; done = 0; ends = f .ends; outcome = Done }) (f .places) f)
+    put6840 (record { chip = f .ptm; levels = f .levels6840; stamp = b; done = 0; ends = f .ends })
+    (put6846 (record { chip = f .combo; levels = f .levels6846; stamp = a; done = 0; ends = f .ends }) (f .places) f)
 
 run12 : ℕ → ℕ → List Step → Case
 run12 a b steps = record { board = apart a b; events46 = []; events40 = []; steps = steps; answers46 = []; answers40 = [] }

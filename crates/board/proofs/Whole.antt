@@ -1,12 +1,12 @@
 -- Whole calls, refusals included, put together for any record: a call that is done leaves a record that the next one does not refuse.
-use Prim.Native.Nat.{ℕ, zero, _+_, _*_, _/_, _%_, _^_, _<_, _≤_}
+use Prim.Native.Nat.{ℕ, _+_, _*_, _/_, _%_, _^_, _<_, _≤_}
 use mathlib.Core.Path.{_≡_, refl, ap, sym, _∙_}
-use mathlib.Core.Bool.{Bool, true, false, not, cond, _&&_, _||_, false≢true}
+use mathlib.Core.Bool.{Bool, true, false, not, _&&_, _||_, false≢true}
 use mathlib.Core.List.{List, []}
 use native.Mathlib.Omega.{arith}
 use lib.ListN.{length, replicate, length-replicate}
 use lib.Dec.{leb, eqb, lit<}
-use borrow.Author.Tests.{leb-true, le-leb, eqb-true, eq-eqb}
+use borrow.Author.Tests.{leb-true, le-leb, eqb-true}
 use Rattle.wire.specs.Stamp as s
 use Rattle.wire.specs.Book.{waitingOf, inOrderAt}
 use Rattle.mc6846.specs.Cycle as c6
@@ -16,9 +16,10 @@ use Rattle.wire.proofs.Ring.{none-waits}
 use Rattle.wire.proofs.Order.{at-in-order}
 use Rattle.wire.proofs.Ranges.{Stamps, Ranged, called-keeps}
 use Rattle.board.specs.declared.Board.{Board}
-use Rattle.board.specs.declared.Outcome.{Outcome}
-use Rattle.board.specs.declared.Outcome.the-variants.{Done, BadRom, BadList, FewPlaces, BadBoard}
-use Rattle.board.specs.Numbers.{numberOf}
+use Rattle.outcomes.specs.declared.Outcome.{Outcome}
+use Rattle.outcomes.specs.declared.Outcome.the-variants.{Done, BadRom, BadList, FewPlaces, BadBoard}
+use Rattle.outcomes.specs.Numbers.{numberOf}
+use Rattle.outcomes.proofs.Laws.{done-number, rom-number, list-number, places-number, board-number}
 use Rattle.board.specs.Record.{legal, wiredBy, optionsFit, bookFits, inRanges}
 use Rattle.board.specs.Calls.{Result, listFits, moved6846, move6846, moved6840, move6840, refused}
 use Rattle.board.specs.Agreement.{Setup, Chip, the6846, the6840, Host, calledOn}
@@ -142,8 +143,7 @@ module _ (b : Board) (t : Typed b) (e : inRanges b ≡ true) where
 
 -- a refusal is not done
 not-done : (o : Outcome) (k : ℕ) → numberOf o ≡ k → 0 < k → o ≡ Done → ⊥
-unfolding numberOf
-not-done o k e h d = let z : k ≡ 0 = sym e ∙ ap numberOf d in omega arith
+not-done o k e h d = let z : k ≡ 0 = sym e ∙ ap numberOf d ∙ done-number in omega arith
 
 -- past the refusals a call is its cycles
 passes-6846 : (rom es : List ℕ) (n : ℕ) (b : Board) (xs : List ℕ) → inRanges b ≡ true → eqb (length rom) 2048 ≡ true → listFits (length es) (b .done6846) ≡ true → leb (length es / 3) (length xs) ≡ true →
@@ -162,20 +162,20 @@ Fails p q r u = (p && q && r && u) ≡ false
 
 refusal-6846 : (rom es : List ℕ) (n : ℕ) (b : Board) (xs : List ℕ) (p q r u : Bool) →
     inRanges b ≡ p → eqb (length rom) 2048 ≡ q → listFits (length es) (b .done6846) ≡ r → leb (length es / 3) (length xs) ≡ u → Fails p q r u → move6846 rom es n b xs .moved .outcome ≡ Done → ⊥
-unfolding move6846 refused numberOf
+unfolding move6846 refused
 refusal-6846 rom es n b xs true true true true e f g h k d = false≢true (sym k)
-refusal-6846 rom es n b xs true true true false e f g h k d = not-done FewPlaces 4 refl (lit< tt) (rw (e, f, g, h) at d)
-refusal-6846 rom es n b xs true true false u e f g h k d = not-done BadList 3 refl (lit< tt) (rw (e, f, g) at d)
-refusal-6846 rom es n b xs true false r u e f g h k d = not-done BadRom 2 refl (lit< tt) (rw (e, f) at d)
-refusal-6846 rom es n b xs false q r u e f g h k d = not-done BadBoard 9 refl (lit< tt) (rw e at d)
+refusal-6846 rom es n b xs true true true false e f g h k d = not-done FewPlaces 4 places-number (lit< tt) (rw (e, f, g, h) at d)
+refusal-6846 rom es n b xs true true false u e f g h k d = not-done BadList 3 list-number (lit< tt) (rw (e, f, g) at d)
+refusal-6846 rom es n b xs true false r u e f g h k d = not-done BadRom 2 rom-number (lit< tt) (rw (e, f) at d)
+refusal-6846 rom es n b xs false q r u e f g h k d = not-done BadBoard 9 board-number (lit< tt) (rw e at d)
 
 refusal-6840 : (es : List ℕ) (n : ℕ) (b : Board) (xs : List ℕ) (p r u : Bool) →
     inRanges b ≡ p → listFits (length es) (b .done6840) ≡ r → leb (length es / 3) (length xs) ≡ u → Fails p true r u → move6840 es n b xs .moved .outcome ≡ Done → ⊥
-unfolding move6840 refused numberOf
+unfolding move6840 refused
 refusal-6840 es n b xs true true true e g h k d = false≢true (sym k)
-refusal-6840 es n b xs true true false e g h k d = not-done FewPlaces 4 refl (lit< tt) (rw (e, g, h) at d)
-refusal-6840 es n b xs true false u e g h k d = not-done BadList 3 refl (lit< tt) (rw (e, g) at d)
-refusal-6840 es n b xs false r u e g h k d = not-done BadBoard 9 refl (lit< tt) (rw e at d)
+refusal-6840 es n b xs true true false e g h k d = not-done FewPlaces 4 places-number (lit< tt) (rw (e, g, h) at d)
+refusal-6840 es n b xs true false u e g h k d = not-done BadList 3 list-number (lit< tt) (rw (e, g) at d)
+refusal-6840 es n b xs false r u e g h k d = not-done BadBoard 9 board-number (lit< tt) (rw e at d)
 
 -- k cycles are k plain cycles: a move by m + n is a move by m, and then by n, where the first was all done. For any record.
 module _ (rom es : List ℕ) (m n : ℕ) (b : Board) (xs : List ℕ) (t : Typed b) where

@@ -8,21 +8,17 @@ use mathlib.Core.Bool.{Bool, true, false, _&&_}
 use mathlib.Core.List.{List, [], _∷_}
 use lib.ListN.{length}
 use Rattle.mc6846.specs.declared.Combo.{Combo}
-use Rattle.mc6846.specs.declared.Levels.{Levels as Levels6846}
 use Rattle.mc6846.specs.declared.Select.{Select}
-use Rattle.mc6846.specs.Events.{highLevels}
 use Rattle.mc6846.specs.Cycle.{startOf as combo₀, cycleOf as comboCycle, ctoOf}
 use Rattle.mc6840.specs.declared.Ptm.{Ptm}
-use Rattle.mc6840.specs.declared.Levels.{Levels as Levels6840}
-use Rattle.mc6840.specs.Events.{allHigh, wiredOf}
 use Rattle.mc6840.specs.Rules.{startOf as ptm₀, cycleOf as ptmCycle}
 use Rattle.board.specs.declared.Board.{Board}
-use Rattle.board.specs.declared.events.Next6846.{Next6846}
-use Rattle.board.specs.declared.events.Next6846.the-variants as n6846
-use Rattle.board.specs.declared.events.Next6840.{Next6840}
-use Rattle.board.specs.declared.events.Next6840.the-variants as n6840
-use Rattle.board.specs.Numbers.{numberOf}
-use Rattle.board.specs.Events.{next6846, next6840, answered}
+use Rattle.signals.specs.Words6846 as w6846
+use Rattle.signals.specs.Words6840 as w6840
+use Rattle.lists.specs.declared.Next.{Next}
+use Rattle.lists.specs.declared.Next.the-variants.{Cycle, Bad}
+use Rattle.outcomes.specs.Numbers.{numberOf}
+use Rattle.lists.specs.Events.{nextOf, answered}
 use Rattle.board.specs.Record.{legal, wiredBy, startOf}
 use Rattle.board.specs.Calls.{Result, move6846, move6840}
 
@@ -70,13 +66,13 @@ pub record Returned : Type 0 where
 -- A chip with its list: the chip, the levels that stay between events, the events done, the answer places.
 pub record Side6846 : Type 0 where
   pub chip : Combo
-  pub levels : Levels6846
+  pub levels : ℕ
   pub done : ℕ
   pub answers : List ℕ
 
 pub record Side6840 : Type 0 where
   pub chip : Ptm
-  pub levels : Levels6840
+  pub levels : ℕ
   pub done : ℕ
   pub answers : List ℕ
 
@@ -86,13 +82,9 @@ pub record Both : Type 0 where
   pub side6840 : Side6840
 
 -- The next event is bad.
-unfoldable pub bad6846 : Next6846 → Bool
-bad6846 (n6846.Cycle levels access done) = false
-bad6846 n6846.Bad = true
-
-unfoldable pub bad6840 : Next6840 → Bool
-bad6840 (n6840.Cycle levels access done) = false
-bad6840 n6840.Bad = true
+unfoldable pub badNext : Next → Bool
+badNext (Cycle levels access done) = false
+badNext Bad = true
 
 module _ (S : Setup) where
   abbrev pub selectOf : Select
@@ -131,24 +123,24 @@ module _ (S : Setup) where
   after (c ∷ cs) h = after cs (calledOn (c .chip) (c .cycles) h .host)
 
   -- The next cycle of the 6846, by its own list.
-  unfoldable pub by6846 : Next6846 → Side6846 → Side6846
-  by6846 (n6846.Cycle levels access done) x =
-      let r = comboCycle selectOf (S .image) levels access (x .chip) in
+  unfoldable pub by6846 : Next → Side6846 → Side6846
+  by6846 (Cycle levels access done) x =
+      let r = comboCycle selectOf (S .image) (w6846.levelsOf levels) (w6846.accessOf access) (x .chip) in
       record { chip = r .chip; levels = levels; done = done; answers = answered (x .answers) (x .done) done (r .answer) }
-  by6846 n6846.Bad x = x
+  by6846 Bad x = x
 
-  abbrev pub nextOf6846 : ℕ → Side6846 → Next6846
-  nextOf6846 stamp x = next6846 (S .events6846) (x .done) stamp (x .levels)
+  abbrev pub nextOf6846 : ℕ → Side6846 → Next
+  nextOf6846 stamp x = nextOf w6846.badEvent (S .events6846) (x .done) stamp (x .levels)
 
   -- The next cycle of the 6840, by its own list, and by the level that it sees on its wired input.
-  unfoldable pub by6840 : Bool → Next6840 → Side6840 → Side6840
-  by6840 level (n6840.Cycle levels access done) x =
-      let r = ptmCycle (wiredOf (S .wire) level levels) access (x .chip) in
+  unfoldable pub by6840 : Bool → Next → Side6840 → Side6840
+  by6840 level (Cycle levels access done) x =
+      let r = ptmCycle (w6840.wiredOf (S .wire) level (w6840.levelsOf levels)) (w6840.accessOf access) (x .chip) in
       record { chip = r .chip; levels = levels; done = done; answers = answered (x .answers) (x .done) done (r .answer) }
-  by6840 level n6840.Bad x = x
+  by6840 level Bad x = x
 
-  abbrev pub nextOf6840 : ℕ → Side6840 → Next6840
-  nextOf6840 stamp x = next6840 (S .events6840) (x .done) stamp (x .levels)
+  abbrev pub nextOf6840 : ℕ → Side6840 → Next
+  nextOf6840 stamp x = nextOf w6840.badEvent (S .events6840) (x .done) stamp (x .levels)
 
   -- A board starts at a caller's stamp; each cycle adds one to it.
   abbrev pub stampAt : ℕ → ℕ
@@ -163,15 +155,15 @@ module _ (S : Setup) where
 
   unfoldable pub lockstep : ℕ → Both
   lockstep zero = record {
-    side6846 = record { chip = combo₀; levels = highLevels; done = 0; answers = S .answers6846 };
-    side6840 = record { chip = ptm₀; levels = allHigh; done = 0; answers = S .answers6840 };
+    side6846 = record { chip = combo₀; levels = w6846.allHigh; done = 0; answers = S .answers6846 };
+    side6840 = record { chip = ptm₀; levels = w6840.allHigh; done = 0; answers = S .answers6840 };
   }
   lockstep (suc n) = together (stampAt n) (lockstep n)
 
   -- None bad when its turn comes.
   pub record NoneBad : Type 0 where
-    pub of6846 : (n : ℕ) → bad6846 (nextOf6846 (stampAt n) (lockstep n .side6846)) ≡ false
-    pub of6840 : (n : ℕ) → bad6840 (nextOf6840 (stampAt n) (lockstep n .side6840)) ≡ false
+    pub of6846 : (n : ℕ) → badNext (nextOf6846 (stampAt n) (lockstep n .side6846)) ≡ false
+    pub of6840 : (n : ℕ) → badNext (nextOf6840 (stampAt n) (lockstep n .side6840)) ≡ false
 
   -- Both chips have reached the same cycle.
   abbrev pub Meet : Host → Type 0

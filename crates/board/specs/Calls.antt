@@ -1,6 +1,6 @@
 -- The calls that move a chip: refusals 9, 2, 3, 4 in this order, and else the cycles.
 use Prim.Native.Nat.{ℕ, _/_, _%_}
-use mathlib.Core.Bool.{Bool, true, false, cond, _&&_}
+use mathlib.Core.Bool.{Bool, cond, _&&_}
 use mathlib.Core.List.{List}
 use lib.ListN.{length}
 use lib.Dec.{leb, eqb}
@@ -8,15 +8,15 @@ use Rattle.wire.specs.Stamp.{gap}
 use Rattle.mc6846.specs.Cycle.{ctoOf}
 use Rattle.board.specs.declared.Board.{Board}
 use Rattle.board.specs.declared.Moved.{Moved}
-use Rattle.board.specs.declared.Outcome.{Outcome}
-use Rattle.board.specs.declared.Outcome.the-variants.{Done, BadRom, BadList, FewPlaces, BadBoard}
-use Rattle.board.specs.declared.mover6846.Given6846.{Given6846}
-use Rattle.board.specs.declared.mover6846.Run6846.{Run6846}
-use Rattle.board.specs.declared.mover6840.Given6840.{Given6840}
-use Rattle.board.specs.declared.mover6840.Run6840.{Run6840}
+use Rattle.outcomes.specs.declared.Outcome.{Outcome}
+use Rattle.outcomes.specs.declared.Outcome.the-variants.{Done, BadRom, BadList, FewPlaces, BadBoard}
+use Rattle.mover6846.specs.declared.Given6846.{Given6846}
+use Rattle.mover6846.specs.declared.Run6846.{Run6846}
+use Rattle.mover6840.specs.declared.Given6840.{Given6840}
+use Rattle.mover6840.specs.declared.Run6840.{Run6840}
 use Rattle.board.specs.Record.{wiredBy, inRanges}
-use Rattle.board.specs.Cycle6846 as c6846
-use Rattle.board.specs.Cycle6840 as c6840
+use Rattle.mover6846.specs.Cycle as c6846
+use Rattle.mover6840.specs.Cycle as c6840
 
 -- what a move gives: board, outcome and count, and every answer place
 pub record Result : Type 0 where
@@ -39,7 +39,7 @@ unfoldable pub given6846 : Board → Given6846
 given6846 b = record { select = b .select; wired = wiredBy (b .wire); other = b .stamp6840 }
 
 unfoldable pub begun6846 : Board → Run6846
-begun6846 b = record { chip = b .combo; levels = b .levels6846; stamp = b .stamp6846; done = b .done6846; ends = b .ends; outcome = Done }
+begun6846 b = record { chip = b .combo; levels = b .levels6846; stamp = b .stamp6846; done = b .done6846; ends = b .ends }
 
 unfoldable pub put6846 : Run6846 → List ℕ → Board → Board
 put6846 r places b = record {
@@ -59,12 +59,13 @@ put6846 r places b = record {
 
 -- the board after the cycles, and how many the stamp has moved by
 unfoldable pub after6846 : Board → c6846.World → Result
-after6846 b w = result (record { board = put6846 (w .run) (w .places) b; outcome = w .run .outcome; count = gap (b .stamp6846) (w .run .stamp) }) (w .answers)
+after6846 b w = result (record { board = put6846 (w .run) (w .places) b; outcome = w .outcome; count = gap (b .stamp6846) (w .run .stamp) }) (w .answers)
 
+-- a move past its refusals
 unfoldable pub moved6846 : List ℕ → List ℕ → ℕ → Board → List ℕ → Result
-moved6846 rom es n b xs = after6846 b (c6846.runOf (given6846 b) rom es n (c6846.world (begun6846 b) xs (b .places)))
+moved6846 rom es n b xs = after6846 b (c6846.runOf (given6846 b) rom es n (c6846.world (begun6846 b) xs (b .places) Done))
 
--- Order: 9, 2, 3, 4; then before each remaining cycle 5, 6, 7.
+-- 2: the lent ROM is not 2,048 bytes. 4: fewer answer places than events. Order: 9, 2, 3, 4; then before each remaining cycle 5, 6, 7.
 unfoldable pub move6846 : List ℕ → List ℕ → ℕ → Board → List ℕ → Result
 move6846 rom es n b xs =
     cond (inRanges b)
@@ -81,7 +82,7 @@ unfoldable pub given6840 : Board → Given6840
 given6840 b = record { wire = b .wire; wired = wiredBy (b .wire); other = b .stamp6846; cto = ctoOf (b .combo) }
 
 unfoldable pub begun6840 : Board → Run6840
-begun6840 b = record { chip = b .ptm; levels = b .levels6840; stamp = b .stamp6840; done = b .done6840; ends = b .ends; outcome = Done }
+begun6840 b = record { chip = b .ptm; levels = b .levels6840; stamp = b .stamp6840; done = b .done6840; ends = b .ends }
 
 unfoldable pub put6840 : Run6840 → Board → Board
 put6840 r b = record {
@@ -100,12 +101,12 @@ put6840 r b = record {
 }
 
 unfoldable pub after6840 : Board → c6840.World → Result
-after6840 b w = result (record { board = put6840 (w .run) b; outcome = w .run .outcome; count = gap (b .stamp6840) (w .run .stamp) }) (w .answers)
+after6840 b w = result (record { board = put6840 (w .run) b; outcome = w .outcome; count = gap (b .stamp6840) (w .run .stamp) }) (w .answers)
 
 unfoldable pub moved6840 : List ℕ → ℕ → Board → List ℕ → Result
-moved6840 es n b xs = after6840 b (c6840.runOf (given6840 b) (b .places) es n (c6840.world (begun6840 b) xs))
+moved6840 es n b xs = after6840 b (c6840.runOf (given6840 b) (b .places) es n (c6840.world (begun6840 b) xs Done))
 
--- Order: 9, 3, 4; then before each remaining cycle 5, 6.
+-- 4: fewer answer places than events. Order: 9, 3, 4; then before each remaining cycle 5, 6.
 unfoldable pub move6840 : List ℕ → ℕ → Board → List ℕ → Result
 move6840 es n b xs =
     cond (inRanges b)

@@ -1,24 +1,24 @@
--- The sections "The board" and "Numbers returned" of document 01: start, the ranges of number 9, and the report.
+-- The sections "The board", "Numbers returned" and, for the report, "Waiting and the wire" of document 01: start, the ranges of number
+-- 9, and the report.
 use Prim.Native.Nat.{ℕ}
-use mathlib.Core.Bool.{Bool, true, false, not, cond, _&&_, _||_}
-use mathlib.Core.List.{List}
+use mathlib.Core.Bool.{Bool, false, not, cond, _&&_, _||_}
 use lib.ListN.{replicate}
 use lib.Dec.{leb, eqb}
 use Rattle.wire.specs.Stamp.{inReach}
 use Rattle.wire.specs.Book.{inOrderAt}
 use Rattle.mc6846.specs.declared.Select.{Select}
-use Rattle.mc6846.specs.Events.{highLevels}
+use Rattle.signals.specs.Words6846.{allHigh as high6846}
+use Rattle.signals.specs.Words6840.{allHigh as high6840}
 use Rattle.mc6846.specs.Port.{portOf, cp2Of}
 use Rattle.mc6846.specs.Registers.{compositeOf}
 use Rattle.mc6846.specs.Cycle.{startOf as combo₀, ctoOf, inRange}
-use Rattle.mc6840.specs.Events.{allHigh}
 use Rattle.mc6840.specs.Rules as ptm
 use Rattle.board.specs.declared.Board.{Board}
 use Rattle.board.specs.declared.Started.{Started}
-use Rattle.board.specs.declared.Begin.the-variants.{Fresh, BadOption}
+use Rattle.outcomes.specs.declared.Begin.the-variants.{Fresh, BadOption}
 use Rattle.board.specs.declared.Pins.{Pins}
-use Rattle.board.specs.declared.Seen.{Seen}
-use Rattle.board.specs.declared.Seen.the-variants.{Levels, Apart, BadBoard}
+use Rattle.outcomes.specs.declared.Seen.{Seen}
+use Rattle.outcomes.specs.declared.Seen.the-variants.{Levels, Apart, BadBoard}
 
 -- Start options: ROM code and I/O code 0 to 3, different; A6 option 0, 1 or 2; extra line 0 or 7 to 10; wire 0 or 1 to 3.
 unfoldable pub legal : ℕ → ℕ → ℕ → ℕ → ℕ → Bool
@@ -36,8 +36,8 @@ freshOf select wire stamp = record {
   wire = wire;
   combo = combo₀;
   ptm = ptm.startOf;
-  levels6846 = highLevels;
-  levels6840 = allHigh;
+  levels6846 = high6846;
+  levels6840 = high6840;
   stamp6846 = stamp;
   stamp6840 = stamp;
   ends = record { first = 0; waiting = 0 };
@@ -87,6 +87,6 @@ levelsOf b = record {
 unfoldable pub noLevels : Seen → Pins
 noLevels o = record { outcome = o; port = 0; cp2 = false; cto = false; o1 = false; o2 = false; o3 = false; irq = false }
 
--- Order: report 9, 8.
+-- 8: report asked while the stamps differ. Order: report 9, 8.
 unfoldable pub reportOf : Board → Pins
 reportOf b = cond (inRanges b) (cond (eqb (b .stamp6846) (b .stamp6840)) (levelsOf b) (noLevels Apart)) (noLevels BadBoard)

@@ -1,26 +1,23 @@
 // The board: an MC6846, an MC6840 and an optional wire from CTO to a clock input, each chip moved by its own list of events.
 ghost use mathlib.Core.Path.{_≡_};
-ghost use lib.ListN.{length};
-ghost use Rattle.board.specs.Numbers.{numberOf, startNumber, reportNumber};
 ghost use Rattle.board.specs.Record.{legal, wiredBy, freshOf, refusedStart, startOf, optionsFit, bookFits, inRanges, levelsOf, noLevels, reportOf};
 ghost use Rattle.board.specs.Calls.{result, listFits, move6846, move6840, moved6846, moved6840, refused, given6846, given6840, begun6846, begun6840, put6846, put6840};
-use crate::mover6840::Given6840;
-use crate::mover6840::Run6840;
-use crate::mover6840::run_6840;
-use crate::mover6846::Given6846;
-use crate::mover6846::Run6846;
-use crate::mover6846::run_6846;
 use mc6840::Ptm;
 use mc6846::Combo;
 use mc6846::Select;
+use mover6840::Given6840;
+use mover6840::Run6840;
+use mover6840::run_6840;
+use mover6846::Given6846;
+use mover6846::Run6846;
+use mover6846::run_6846;
+use outcomes::Begin;
+use outcomes::Outcome;
+use outcomes::Seen;
 use wire::book::Ends;
 use wire::book::in_order;
 use wire::stamp::ahead;
 use wire::stamp::in_reach;
-
-mod events;
-mod mover6840;
-mod mover6846;
 
 // The whole record; a host may hold it. A place of the book that no waiting change stands in may hold anything.
 #[repr(C)]
@@ -29,39 +26,15 @@ pub struct Board {
     pub wire: u8,
     pub combo: Combo,
     pub ptm: Ptm,
-    pub levels6846: mc6846::Levels,
-    pub levels6840: mc6840::Levels,
+    // the levels that stay between events, as the words of the last events
+    pub levels6846: u32,
+    pub levels6840: u32,
     pub stamp6846: u32,
     pub stamp6840: u32,
     pub ends: Ends,
     pub done6846: usize,
     pub done6840: usize,
     pub places: [u32; 64],
-}
-
-// What a move comes to.
-pub enum Outcome {
-    Done,
-    BadRom,
-    BadList,
-    FewPlaces,
-    BadEvent,
-    MustWait,
-    BookFull,
-    BadBoard,
-}
-
-// What a start comes to.
-pub enum Begin {
-    Fresh,
-    BadOption,
-}
-
-// What a report comes to.
-pub enum Seen {
-    Levels,
-    Apart,
-    BadBoard,
 }
 
 pub struct Started {
@@ -86,46 +59,6 @@ pub struct Pins {
     pub irq: bool,
 }
 
-impl Outcome {
-    pub fn number(self) -> u32
-        ensures { λ r. ⌜ r ≡ numberOf self ⌝ }
-    {
-        match self {
-            Outcome::Done => 0,
-            Outcome::BadRom => 2,
-            Outcome::BadList => 3,
-            Outcome::FewPlaces => 4,
-            Outcome::BadEvent => 5,
-            Outcome::MustWait => 6,
-            Outcome::BookFull => 7,
-            Outcome::BadBoard => 9,
-        }
-    }
-}
-
-impl Begin {
-    pub fn number(self) -> u32
-        ensures { λ r. ⌜ r ≡ startNumber self ⌝ }
-    {
-        match self {
-            Begin::Fresh => 0,
-            Begin::BadOption => 1,
-        }
-    }
-}
-
-impl Seen {
-    pub fn number(self) -> u32
-        ensures { λ r. ⌜ r ≡ reportNumber self ⌝ }
-    {
-        match self {
-            Seen::Levels => 0,
-            Seen::Apart => 8,
-            Seen::BadBoard => 9,
-        }
-    }
-}
-
 // The start options are of their values.
 fn is_legal(rom: u32, io: u32, a6: u32, extra: u32, wire: u32) -> bool
     ensures { λ r. ⌜ r ≡ legal rom io a6 extra wire ⌝ }
@@ -140,15 +73,13 @@ impl Board {
     {
         let combo = Combo::start();
         let ptm = Ptm::start();
-        let levels6846 = mc6846::Levels::high();
-        let levels6840 = mc6840::Levels::high();
         Board {
             select: select,
             wire: wire,
             combo: combo,
             ptm: ptm,
-            levels6846: levels6846,
-            levels6840: levels6840,
+            levels6846: 8191,
+            levels6840: 127,
             stamp6846: stamp,
             stamp6840: stamp,
             ends: Ends {
@@ -242,15 +173,13 @@ impl Board {
         ensures { λ r. ⌜ r ≡ begun6846 self ⌝ }
     {
         let chip = self.combo;
-        let levels = self.levels6846;
         let ends = self.ends;
         Run6846 {
             chip: chip,
-            levels: levels,
+            levels: self.levels6846,
             stamp: self.stamp6846,
             done: self.done6846,
             ends: ends,
-            outcome: Outcome::Done,
         }
     }
 
@@ -260,16 +189,14 @@ impl Board {
         let select = self.select;
         let combo = run.chip;
         let ptm = self.ptm;
-        let levels6846 = run.levels;
-        let levels6840 = self.levels6840;
         let ends = run.ends;
         Board {
             select: select,
             wire: self.wire,
             combo: combo,
             ptm: ptm,
-            levels6846: levels6846,
-            levels6840: levels6840,
+            levels6846: run.levels,
+            levels6840: self.levels6840,
             stamp6846: run.stamp,
             stamp6840: self.stamp6840,
             ends: ends,
@@ -283,7 +210,7 @@ impl Board {
         ensures { λ r. ⌜ result r (now (answers .exit)) ≡ moved6846 (now (rom .entry)) (now (events .entry)) cycles self (now (answers .entry)) ⌝ }
     {
         let mut places = self.places;
-        let run = run_6846(
+        let ran = run_6846(
             self.begin_6846(),
             self.given_6846(),
             rom,
@@ -292,12 +219,12 @@ impl Board {
             &mut places,
             cycles,
         );
-        let board = self.put_6846(run, places);
-        let outcome = run.outcome;
+        let board = self.put_6846(ran.run, places);
+        let outcome = ran.outcome;
         Moved {
             board: board,
             outcome: outcome,
-            count: ahead(self.stamp6846, run.stamp),
+            count: ahead(self.stamp6846, ran.run.stamp),
         }
     }
 
@@ -317,15 +244,13 @@ impl Board {
         ensures { λ r. ⌜ r ≡ begun6840 self ⌝ }
     {
         let chip = self.ptm;
-        let levels = self.levels6840;
         let ends = self.ends;
         Run6840 {
             chip: chip,
-            levels: levels,
+            levels: self.levels6840,
             stamp: self.stamp6840,
             done: self.done6840,
             ends: ends,
-            outcome: Outcome::Done,
         }
     }
 
@@ -335,8 +260,6 @@ impl Board {
         let select = self.select;
         let combo = self.combo;
         let ptm = run.chip;
-        let levels6846 = self.levels6846;
-        let levels6840 = run.levels;
         let ends = run.ends;
         let places = self.places;
         Board {
@@ -344,8 +267,8 @@ impl Board {
             wire: self.wire,
             combo: combo,
             ptm: ptm,
-            levels6846: levels6846,
-            levels6840: levels6840,
+            levels6846: self.levels6846,
+            levels6840: run.levels,
             stamp6846: self.stamp6846,
             stamp6840: run.stamp,
             ends: ends,
@@ -359,7 +282,7 @@ impl Board {
         ensures { λ r. ⌜ result r (now (answers .exit)) ≡ moved6840 (now (events .entry)) cycles self (now (answers .entry)) ⌝ }
     {
         let places = self.places;
-        let run = run_6840(
+        let ran = run_6840(
             self.begin_6840(),
             self.given_6840(),
             events,
@@ -367,12 +290,12 @@ impl Board {
             &places,
             cycles,
         );
-        let board = self.put_6840(run);
-        let outcome = run.outcome;
+        let board = self.put_6840(ran.run);
+        let outcome = ran.outcome;
         Moved {
             board: board,
             outcome: outcome,
-            count: ahead(self.stamp6840, run.stamp),
+            count: ahead(self.stamp6840, ran.run.stamp),
         }
     }
 }

@@ -10,11 +10,10 @@ use Rattle.timer.specs.Fields.{bit}
 use Rattle.timer.specs.Rules.{fits}
 use Rattle.timer.proofs.Laws.{cycle-fits, settled-fits, latch-fits, control-fits, armed-fits, msb-fits, reset-fits, cycle-gate, cycle-clock}
 use Rattle.mc6840.specs.declared.Ptm.{Ptm}
-use Rattle.mc6840.specs.declared.Levels.{Levels}
-use Rattle.mc6840.specs.declared.Access.{Access}
+use Rattle.signals.specs.declared.m6840.Levels.{Levels}
+use Rattle.signals.specs.declared.m6840.Access.{Access}
 use Rattle.mc6840.specs.declared.Done.{Done}
-use Rattle.mc6840.specs.Fields.{timerAt, withC1, withC2, withC3, done}
-use Rattle.mc6840.specs.Events.{wiredOf}
+use Rattle.mc6840.specs.Fields.{timerAt, done}
 use Rattle.mc6840.specs.Rules.{resetOf, startOf, clocked, armedAll, msbReadAt, afterRead, controlAt, latchAt, controlZero, stored, settledAll, accessed, underReset, cycleOf, inRange}
 
 -- What RESET leaves: with RESET low the chip after the cycle is the reset state with its levels, whatever it was.
@@ -34,23 +33,6 @@ quiet-answer l a p k = by (l .reset)
     by : (b : Bool) → cond b (cond (a .present) (accessed a (clocked l p)) (done (clocked l p) 256)) (underReset a (resetOf l)) .answer ≡ 256
     by true = rw k
     by false = rw k
-
--- Without a wire the levels are the list's; a wired input's own bit does not matter.
-pub wired-none : (level : Bool) (l : Levels) → wiredOf 0 level l ≡ l
-unfolding wiredOf
-wired-none level l = refl
-
-pub wired-1 : (level own : Bool) (l : Levels) → wiredOf 1 level (withC1 own l) ≡ wiredOf 1 level l
-unfolding wiredOf
-wired-1 level own l = refl
-
-pub wired-2 : (level own : Bool) (l : Levels) → wiredOf 2 level (withC2 own l) ≡ wiredOf 2 level l
-unfolding wiredOf
-wired-2 level own l = refl
-
-pub wired-3 : (level own : Bool) (l : Levels) → wiredOf 3 level (withC3 own l) ≡ wiredOf 3 level l
-unfolding wiredOf
-wired-3 level own l = refl
 
 -- the levels that a timer sampled last
 pub record Inputs : Type 0 where

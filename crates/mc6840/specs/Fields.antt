@@ -1,10 +1,9 @@
--- Plumbing: a timer of the three, and a chip or its levels with a part changed.
+-- Plumbing: a timer of the three, and a chip with a part changed.
 use Prim.Native.Nat.{ℕ}
-use mathlib.Core.Bool.{Bool, false}
+use mathlib.Core.Bool.{false}
 use lib.ListN.{getD, set}
 use Rattle.timer.specs.declared.Timer.{Timer}
 use Rattle.mc6840.specs.declared.Ptm.{Ptm}
-use Rattle.mc6840.specs.declared.Levels.{Levels}
 use Rattle.mc6840.specs.declared.Done.{Done}
 
 -- what lies past the third timer; no code reads it
@@ -23,15 +22,6 @@ withMsb v p = record { timers = p .timers; msb = v; lsb = p .lsb }
 
 abbrev pub withLsb : ℕ → Ptm → Ptm
 withLsb v p = record { timers = p .timers; msb = p .msb; lsb = v }
-
-abbrev pub withC1 : Bool → Levels → Levels
-withC1 v l = record { c1 = v; c2 = l .c2; c3 = l .c3; g1 = l .g1; g2 = l .g2; g3 = l .g3; reset = l .reset }
-
-abbrev pub withC2 : Bool → Levels → Levels
-withC2 v l = record { c1 = l .c1; c2 = v; c3 = l .c3; g1 = l .g1; g2 = l .g2; g3 = l .g3; reset = l .reset }
-
-abbrev pub withC3 : Bool → Levels → Levels
-withC3 v l = record { c1 = l .c1; c2 = l .c2; c3 = v; g1 = l .g1; g2 = l .g2; g3 = l .g3; reset = l .reset }
 
 -- what a cycle leaves, and its answer
 abbrev pub done : Ptm → ℕ → Done

@@ -7,12 +7,12 @@ use Rattle.timer.specs.declared.Setting.{Setting}
 use Rattle.timer.specs.Fields.{bit, msb as upper, lsb as lower}
 use Rattle.timer.specs.Rules.{cycleOf as timerCycle, settled, latchWritten, controlWritten, armedBy, msbRead, resetState, pinOf, asks, fits}
 use Rattle.mc6840.specs.declared.Ptm.{Ptm}
-use Rattle.mc6840.specs.declared.Levels.{Levels}
-use Rattle.mc6840.specs.declared.Access.{Access}
+use Rattle.signals.specs.declared.m6840.Levels.{Levels}
+use Rattle.signals.specs.declared.m6840.Access.{Access}
 use Rattle.mc6840.specs.declared.Outputs.{Outputs}
 use Rattle.mc6840.specs.declared.Done.{Done}
 use Rattle.mc6840.specs.Fields.{timerAt, withTimer, withMsb, withLsb, done}
-use Rattle.mc6840.specs.Events.{allHigh}
+use Rattle.signals.specs.Words6840.{allHigh, levelsOf}
 
 -- Internal reset: CR10 for all three. CR30 divides timer 3 by 8. Bit 2: 6840 dual 8-bit. Bits 001: 6840 single shot.
 unfoldable pub settingAt : ℕ → Ptm → Setting
@@ -33,7 +33,7 @@ resetOf l = record {
 
 -- Start leaves the reset state; the previous cycle's levels are high at start.
 unfoldable pub startOf : Ptm
-startOf = resetOf allHigh
+startOf = resetOf (levelsOf allHigh)
 
 -- Gate edges; clocks: each timer takes a cycle.
 unfoldable pub clocked : Levels → Ptm → Ptm

@@ -2,9 +2,12 @@
 ghost use mathlib.Core.Path.{_≡_};
 ghost use Prim.Native.Nat.{_<_};
 ghost use Rattle.timer.specs.Fields.{bit};
+ghost use Rattle.timer.specs.Rules as timer;
 ghost use Rattle.mc6840.specs.Fields.{withMsb};
-ghost use Rattle.mc6840.specs.Events.{allHigh, noAccess, levelsOf, accessOf, unnamed, readWithData, absentWithBits, eventOf, wiredOf};
 ghost use Rattle.mc6840.specs.Rules.{settingAt, resetOf, startOf, clocked, compositeOf, statusByte, statusOf, armedAll, msbReadAt, driven, afterRead, controlAt, latchAt, controlZero, stored, settledAll, accessed, underReset, cycleOf, outputsOf, inRange};
+use signals::m6840::Access;
+use signals::m6840::Levels;
+use signals::m6840::levels_of;
 use timer::Setting;
 use timer::Timer;
 
@@ -14,32 +17,6 @@ pub struct Ptm {
     pub timers: [Timer; 3],
     pub msb: u8,
     pub lsb: u8,
-}
-
-// The levels of the input pins.
-#[repr(C)]
-pub struct Levels {
-    pub c1: bool,
-    pub c2: bool,
-    pub c3: bool,
-    pub g1: bool,
-    pub g2: bool,
-    pub g3: bool,
-    pub reset: bool,
-}
-
-// What the bus asks: the register is RS0 + 2 RS1 + 4 RS2.
-pub struct Access {
-    pub present: bool,
-    pub read: bool,
-    pub register: u8,
-    pub byte: u8,
-}
-
-// An event's levels and access, or that one of its words is bad.
-pub enum Event {
-    Good { levels: Levels, access: Access },
-    Bad,
 }
 
 // The levels of the output pins.
@@ -61,116 +38,24 @@ fn low_bit(x: u32) -> bool
     x % 2 == 1
 }
 
-fn levels_of(word: u32) -> Levels
-    ensures { λ r. ⌜ r ≡ levelsOf word ⌝ }
-{
-    Levels {
-        c1: low_bit(word),
-        c2: word / 2 % 2 == 1,
-        c3: word / 4 % 2 == 1,
-        g1: word / 8 % 2 == 1,
-        g2: word / 16 % 2 == 1,
-        g3: word / 32 % 2 == 1,
-        reset: word / 64 % 2 == 1,
-    }
-}
-
-fn access_of(word: u32) -> Access
-    ensures { λ r. ⌜ r ≡ accessOf word ⌝ }
-{
-    Access {
-        present: low_bit(word),
-        read: word / 2 % 2 == 1,
-        register: (word / 4 % 8) as u8,
-        byte: (word / 65536 % 256) as u8,
-    }
-}
-
-fn has_unnamed(levels: u32, access: u32) -> bool
-    ensures { λ r. ⌜ r ≡ unnamed levels access ⌝ }
-{
-    !(levels / 128 == 0) | !(access / 32 % 2048 == 0) | !(access / 16777216 == 0)
-}
-
-fn reads_with_data(access: u32) -> bool
-    ensures { λ r. ⌜ r ≡ readWithData access ⌝ }
-{
-    (access / 2 % 2 == 1) & !(access / 65536 % 256 == 0)
-}
-
-fn absent_with_bits(access: u32) -> bool
-    ensures { λ r. ⌜ r ≡ absentWithBits access ⌝ }
-{
-    !low_bit(access) & !(access == 0)
-}
-
-// The two words of an event but its stamp, taken apart.
-pub fn event_of(levels: u32, access: u32) -> Event
-    ensures { λ r. ⌜ r ≡ eventOf levels access ⌝ }
-{
-    if has_unnamed(levels, access) | reads_with_data(access) | absent_with_bits(access) {
-        return Event::Bad;
-    }
-    Event::Good {
-        levels: levels_of(levels),
-        access: access_of(access),
-    }
-}
-
-impl Levels {
-    pub fn high() -> Levels
-        ensures { λ r. ⌜ r ≡ allHigh ⌝ }
-    {
-        Levels {
-            c1: true,
-            c2: true,
-            c3: true,
-            g1: true,
-            g2: true,
-            g3: true,
-            reset: true,
-        }
-    }
-
-    // The wire's level on the input that it goes to.
-    pub fn wired(mut self, wire: u8, level: bool) -> Levels
-        ensures { λ r. ⌜ r ≡ wiredOf wire level self ⌝ }
-    {
-        match wire {
-            1 => {
-                self.c1 = level;
-                self
-            }
-            2 => {
-                self.c2 = level;
-                self
-            }
-            3 => {
-                self.c3 = level;
-                self
-            }
-            _ => self,
-        }
-    }
-}
-
-impl Access {
-    pub fn none() -> Access
-        ensures { λ r. ⌜ r ≡ noAccess ⌝ }
-    {
-        Access {
-            present: false,
-            read: false,
-            register: 0,
-            byte: 0,
-        }
-    }
-}
-
 fn status_byte(first: bool, second: bool, third: bool, any: bool) -> u16
     ensures { λ r. ⌜ r ≡ statusByte first second third any ⌝ }
 {
     (first as u16) + 2 * (second as u16) + 4 * (third as u16) + 128 * (any as u16)
+}
+
+// Divided by 8 a timer never goes the quick way. This second caller also keeps full_cycle a call of its own, so that cycle stays
+// small enough to be inlined; it works on copies, so that what is quick stays in registers.
+fn cycle_third(t: Timer, s: Setting, gate: bool, clock: bool) -> Timer
+    ensures { λ r. ⌜ r ≡ timer.cycleOf s gate clock t ⌝ }
+{
+    if s.divided {
+        let slow = t;
+        let setting = s;
+        let next = slow.full_cycle(setting, gate, clock);
+        return next;
+    }
+    t.cycle(s, gate, clock)
 }
 
 impl Ptm {
@@ -207,7 +92,7 @@ impl Ptm {
     pub fn start() -> Ptm
         ensures { λ r. ⌜ r ≡ startOf ⌝ }
     {
-        Ptm::reset(Levels::high())
+        Ptm::reset(levels_of(127))
     }
 
     // Gate edges and clocks of the three timers.
@@ -219,7 +104,7 @@ impl Ptm {
         let t3 = self.timers[2];
         let first = t1.cycle(self.setting(0), levels.g1, levels.c1);
         let second = t2.cycle(self.setting(1), levels.g2, levels.c2);
-        let third = t3.cycle(self.setting(2), levels.g3, levels.c3);
+        let third = cycle_third(t3, self.setting(2), levels.g3, levels.c3);
         let timers = [first, second, third];
         Ptm {
             timers: timers,
@@ -408,21 +293,27 @@ impl Ptm {
         }
     }
 
-    // One cycle: RESET, or gate edges and clocks and then the bus access.
+    // One cycle: RESET, or gate edges and clocks and then the bus access, on copies.
     pub fn cycle(self, levels: Levels, access: Access) -> Done
         ensures { λ r. ⌜ r ≡ cycleOf levels access self ⌝ }
     {
         if levels.reset {
             let after = self.clock(levels);
             if access.present {
-                return after.access(access);
+                let chip = after;
+                let asked = access;
+                let done = chip.access(asked);
+                return done;
             }
             return Done {
                 chip: after,
                 answer: 256,
             };
         }
-        Ptm::reset(levels).stay(access)
+        let low = Ptm::reset(levels);
+        let asked = access;
+        let done = low.stay(asked);
+        done
     }
 
     // The pins O1 to O3.

@@ -8,14 +8,14 @@ use Rattle.timer.specs.Fields.{bit}
 use Rattle.timer.specs.Rules.{fits}
 use Rattle.timer.proofs.Laws.{cycle-fits, settled-fits, latch-fits, control-fits, armed-fits, msb-fits, reset-fits}
 use Rattle.mc6846.specs.declared.Combo.{Combo}
-use Rattle.mc6846.specs.declared.Levels.{Levels}
-use Rattle.mc6846.specs.declared.Access.{Access}
+use Rattle.signals.specs.declared.m6846.Levels.{Levels}
+use Rattle.signals.specs.declared.m6846.Access.{Access}
 use Rattle.mc6846.specs.declared.Select.{Select}
 use Rattle.mc6846.specs.declared.Done.{Done}
-use Rattle.mc6846.specs.Events.{highLevels}
-use Rattle.mc6846.specs.Port.{cp1Edge, capturing, flagged, acknowledged, sampled, released, touchedBy, pdrWritten, portCleared, portSettled}
+use Rattle.signals.specs.Words6846.{allHigh, levelsOf}
+use Rattle.mc6846.specs.Port.{cp1Edge, capturing, flagged, marked, released, touchedBy, pdrWritten, portCleared, portSettled, cp2Out, cp2Of}
 use Rattle.mc6846.specs.Registers.{romChosen, ioChosen, statusRead, counterRead, afterRead, pcrWritten, tcrWritten, lsbWritten, stored, timerSettled, afterWrite}
-use Rattle.mc6846.specs.Cycle.{resetOf, startOf, edged, clocked, readBy, writtenBy, transferred, accessed, resetCycle, cycleOf, ctoOf, inRange}
+use Rattle.mc6846.specs.Cycle.{sampled, resetOf, startOf, edged, clocked, readBy, writtenBy, transferred, accessed, shown, resetCycle, cycleOf, ctoOf, inRange}
 use Rattle.mc6846.proofs.Runs.{start-low}
 
 -- the levels last sampled
@@ -31,9 +31,12 @@ abbrev pub given : Levels → Seen
 given l = record { pins = l .pins; cp1 = l .cp1; cp2 = l .cp2 }
 
 -- whichever way a test goes
+both : {A : Type 0} (P : A → Type 0) (b : Bool) (x y : A) → P x → P y → P (cond b x y)
+both P true x y p q = p
+both P false x y p q = q
+
 either : {A B : Type 0} (f : A → B) (b : Bool) (x y : A) (v : B) → f x ≡ v → f y ≡ v → f (cond b x y) ≡ v
-either f true x y v p q = p
-either f false x y v p q = q
+either {A = A} f b x y v p q = both (λ (z : A). f z ≡ v) b x y p q
 
 -- what a read or a write leaves of the sampled levels: all
 read-seen : (r : ℕ) (c : Combo) → seen (afterRead r c) ≡ seen c
@@ -67,13 +70,21 @@ module _ (s : Select) (rom : List ℕ) (a : Access) (c : Combo) where
       (either (λ (d : Done). seen (d .chip)) (ioChosen s a) _ _ _ (write-seen _ _ c) refl))
       refl
 
-edged-seen : (l : Levels) (c : Combo) → seen (edged l c) ≡ given l
-unfolding edged sampled
-edged-seen l c = refl
+sampled-seen : (l : Levels) (c : Combo) → seen (sampled l c) ≡ given l
+unfolding sampled
+sampled-seen l c = refl
+
+edged-seen : (c : Combo) → seen (edged c) ≡ seen c
+unfolding edged marked flagged capturing
+edged-seen c = either seen (bit 2 (c .pcr) && not (c .captured) && cp1Edge c) _ _ _ refl refl
 
 clocked-seen : (l : Levels) (c : Combo) → seen (clocked l c) ≡ seen c
 unfolding clocked
 clocked-seen l c = refl
+
+shown-seen : (c : Combo) → seen (shown c) ≡ seen c
+unfolding shown
+shown-seen c = refl
 
 reset-seen : (l : Levels) → seen (resetOf l) ≡ given l
 unfolding resetOf
@@ -83,7 +94,7 @@ reset-seen l = refl
 pub cycle-seen : (s : Select) (rom : List ℕ) (l : Levels) (a : Access) (c : Combo) → seen (cycleOf s rom l a c .chip) ≡ given l
 unfolding cycleOf resetCycle
 cycle-seen s rom l a c =
-    either (λ (d : Done). seen (d .chip)) (l .reset) _ _ _ (access-seen s rom a _ ∙ clocked-seen l _ ∙ edged-seen l c) (reset-seen l)
+    either (λ (d : Done). seen (d .chip)) (l .reset) _ _ _ (shown-seen _ ∙ access-seen s rom a _ ∙ clocked-seen l _ ∙ edged-seen _ ∙ sampled-seen l c) (reset-seen l)
 
 pub cycle-pins : (s : Select) (rom : List ℕ) (l : Levels) (a : Access) (c : Combo) → cycleOf s rom l a c .chip .pins ≡ l .pins
 cycle-pins s rom l a c = ap (λ (k : Seen). k .pins) (cycle-seen s rom l a c)
@@ -130,13 +141,21 @@ module _ (s : Select) (rom : List ℕ) (a : Access) (c : Combo) (p : fit c ≡ t
       (either (λ (d : Done). fit (d .chip)) (ioChosen s a) _ _ _ (write-fits _ _ c p) p))
       p
 
-edged-fits : (l : Levels) (c : Combo) → fit c ≡ true → fit (edged l c) ≡ true
-unfolding edged sampled acknowledged flagged capturing
-edged-fits l c p = either fit (bit 2 (c .pcr) && not (c .captured) && cp1Edge l c) _ _ _ p p
+sampled-fits : (l : Levels) (c : Combo) → fit c ≡ true → fit (sampled l c) ≡ true
+unfolding sampled
+sampled-fits l c p = p
+
+edged-fits : (c : Combo) → fit c ≡ true → fit (edged c) ≡ true
+unfolding edged marked flagged capturing
+edged-fits c p = either fit (bit 2 (c .pcr) && not (c .captured) && cp1Edge c) _ _ _ p p
 
 clocked-fits : (l : Levels) (c : Combo) → fit c ≡ true → fit (clocked l c) ≡ true
 unfolding clocked
 clocked-fits l c p = cycle-fits _ _ _ _ p
+
+shown-fits : (c : Combo) → fit c ≡ true → fit (shown c) ≡ true
+unfolding shown
+shown-fits c p = p
 
 reset-in-range : (l : Levels) → fit (resetOf l) ≡ true
 unfolding resetOf
@@ -146,12 +165,12 @@ reset-in-range l = reset-fits 1 (l .gate) (l .clock)
 pub cycle-in-range : (s : Select) (rom : List ℕ) (l : Levels) (a : Access) (c : Combo) → inRange c ≡ true → inRange (cycleOf s rom l a c .chip) ≡ true
 unfolding inRange cycleOf resetCycle
 cycle-in-range s rom l a c p =
-    either (λ (d : Done). fit (d .chip)) (l .reset) _ _ _ (access-fits s rom a _ (clocked-fits l _ (edged-fits l c p))) (reset-in-range l)
+    either (λ (d : Done). fit (d .chip)) (l .reset) _ _ _ (shown-fits _ (access-fits s rom a _ (clocked-fits l _ (edged-fits _ (sampled-fits l c p))))) (reset-in-range l)
 
 -- Start is in range.
 pub start-in-range : inRange startOf ≡ true
 unfolding inRange
-start-in-range = reset-in-range highLevels
+start-in-range = reset-in-range (levelsOf allHigh)
 
 -- Where nothing is asked, nothing is driven.
 silent : (s : Select) (rom : List ℕ) (a : Access) (c : Combo) → a .present ≡ false → accessed s rom a c ≡ record { chip = c; answer = 256 }
@@ -168,6 +187,24 @@ cycle-silent s rom l a c p =
 pub cycle-reset : (s : Select) (rom : List ℕ) (l : Levels) (a : Access) (c : Combo) → l .reset ≡ false → cycleOf s rom l a c .chip ≡ resetOf l
 unfolding cycleOf resetCycle
 cycle-reset s rom l a c p = rw p
+
+-- what CP2 shows
+abbrev cp2Shown : Combo → Bool
+cp2Shown c = cond (bit 5 (c .pcr)) (cp2Out c) (c .cp2)
+
+shown-cp2 : (c : Combo) → cp2Of (shown c) ≡ cp2Shown (shown c)
+unfolding shown cp2Of cp2Out
+shown-cp2 c = refl
+
+reset-cp2 : (l : Levels) → cp2Of (resetOf l) ≡ cp2Shown (resetOf l)
+unfolding resetOf cp2Of
+reset-cp2 l = refl
+
+-- After any cycle the level kept for CP2 is the one that CP2 out gives.
+pub cycle-shown : (s : Select) (rom : List ℕ) (l : Levels) (a : Access) (c : Combo) → cp2Of (cycleOf s rom l a c .chip) ≡ cp2Shown (cycleOf s rom l a c .chip)
+unfolding cycleOf resetCycle
+cycle-shown s rom l a c =
+    both (λ (d : Done). cp2Of (d .chip) ≡ cp2Shown (d .chip)) (l .reset) _ _ (shown-cp2 _) (reset-cp2 l)
 
 -- Start's CTO is low.
 pub start-cto : ctoOf startOf ≡ false

@@ -7,7 +7,7 @@ use Rattle.timer.specs.Rules.{settled, latchWritten, controlWritten, armedBy, m
 use Rattle.timer.specs.declared.Timer.{Timer}
 use Rattle.timer.specs.declared.Setting.{Setting}
 use Rattle.mc6846.specs.declared.Combo.{Combo}
-use Rattle.mc6846.specs.declared.Access.{Access}
+use Rattle.signals.specs.declared.m6846.Access.{Access}
 use Rattle.mc6846.specs.declared.Select.{Select}
 use Rattle.mc6846.specs.Fields.{withTimer, withMsb, withLsb, withPcr, withDdr, withArms}
 use Rattle.mc6846.specs.Port.{pdrByte, released, touchedBy, pdrWritten, portSettled, portAsks}

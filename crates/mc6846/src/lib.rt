@@ -3,14 +3,16 @@ ghost use mathlib.Core.Path.{_≡_};
 ghost use lib.ListN.{getD};
 ghost use Rattle.timer.specs.Fields.{bit};
 ghost use Rattle.mc6846.specs.Fields.{withMsb, withDdr, done};
-ghost use Rattle.mc6846.specs.Events.{highLevels, noAccess, levelsOf, accessOf, badAccess, eventOf};
-ghost use Rattle.mc6846.specs.Port.{mixed, activeEdge, cp1Edge, cp2Edge, capturing, flagged, acknowledged, sampled, pdrByte, released, touchedBy, pdrWritten, portCleared, portSettled, cp2Out, cp2Of, portOf};
+ghost use Rattle.mc6846.specs.Port.{mixed, activeEdge, cp1Edge, cp2Edge, capturing, flagged, marked, pdrByte, released, touchedBy, pdrWritten, portCleared, portSettled, cp2Out, cp2Of, portOf};
 ghost use Rattle.mc6846.specs.Registers.{settingOf, a6Fits, extraFits, ioChosen, compositeOf, weight, statusOf, registerByte, statusRead, counterRead, afterRead, pcrWritten, tcrWritten, lsbWritten, stored, timerSettled, afterWrite};
-ghost use Rattle.mc6846.specs.Cycle.{resetOf, startOf, edged, clocked, readBy, writtenBy, transferred, accessed, resetCycle, cycleOf, ctoOf, inRange};
+ghost use Rattle.mc6846.specs.Cycle.{sampled, resetOf, startOf, edged, clocked, readBy, writtenBy, transferred, accessed, shown, resetCycle, cycleOf, ctoOf, inRange};
+use signals::m6846::Access;
+use signals::m6846::Levels;
+use signals::m6846::levels_of;
 use timer::Setting;
 use timer::Timer;
 
-// What the chip keeps from cycle to cycle.
+// What the chip keeps from cycle to cycle; strobed, raised and the levels before are made anew in each.
 #[repr(C)]
 pub struct Combo {
     pub timer: Timer,
@@ -22,7 +24,7 @@ pub struct Combo {
     pub pdr: u8,
     // the levels that a CP1 edge captured
     pub capture: u8,
-    // the levels of P in the cycle before
+    // the levels of P last sampled
     pub pins: u8,
     pub flag1: bool,
     pub armed1: bool,
@@ -34,29 +36,14 @@ pub struct Combo {
     pub strobed: bool,
     // flag 1 was set after this cycle's edges
     pub raised: bool,
-    // the levels of CP1 and CP2 in the cycle before
+    // the levels of CP1 and CP2 last sampled
     pub cp1: bool,
     pub cp2: bool,
-}
-
-// The levels recognised in a cycle: P, CP1, CP2, CTG, CTC, RESET.
-#[repr(C)]
-pub struct Levels {
-    pub pins: u8,
-    pub cp1: bool,
-    pub cp2: bool,
-    pub gate: bool,
-    pub clock: bool,
-    pub reset: bool,
-}
-
-// What the bus asks in a cycle; the code is CS0 + 2 x CS1, the address A0-A10.
-pub struct Access {
-    pub present: bool,
-    pub read: bool,
-    pub code: u8,
-    pub address: u16,
-    pub byte: u8,
+    // the levels of CP1 and CP2 in the cycle before: what edges compare with
+    pub before1: bool,
+    pub before2: bool,
+    // the level that CP2 drives as an output, as this cycle left it
+    pub driven: bool,
 }
 
 // What selects ROM and I/O: their codes, the A6 option, the extra line.
@@ -66,12 +53,6 @@ pub struct Select {
     pub io: u8,
     pub a6: u8,
     pub extra: u8,
-}
-
-// An event's words, taken apart.
-pub enum Event {
-    Good { levels: Levels, access: Access },
-    Bad,
 }
 
 // The chip after a cycle, and the byte read or 256.
@@ -84,83 +65,6 @@ fn lowest_bit(word: u32) -> bool
     ensures { λ r. ⌜ r ≡ bit 0 word ⌝ }
 {
     word % 2 == 1
-}
-
-fn levels_of(word: u32) -> Levels
-    ensures { λ r. ⌜ r ≡ levelsOf word ⌝ }
-{
-    Levels {
-        pins: (word % 256) as u8,
-        cp1: word / 256 % 2 == 1,
-        cp2: word / 512 % 2 == 1,
-        gate: word / 1024 % 2 == 1,
-        clock: word / 2048 % 2 == 1,
-        reset: word / 4096 % 2 == 1,
-    }
-}
-
-fn access_of(word: u32) -> Access
-    ensures { λ r. ⌜ r ≡ accessOf word ⌝ }
-{
-    Access {
-        present: lowest_bit(word),
-        read: word / 2 % 2 == 1,
-        code: (word / 4 % 4) as u8,
-        address: (word / 16 % 2048) as u16,
-        byte: (word / 65536 % 256) as u8,
-    }
-}
-
-fn bad_access(word: u32) -> bool
-    ensures { λ r. ⌜ r ≡ badAccess word ⌝ }
-{
-    let unnamed = (word / 32768 % 2 == 1) | !(word / 16777216 == 0);
-    let read = word / 2 % 2 == 1;
-    unnamed | (read & !(word / 65536 % 256 == 0)) | (!lowest_bit(word) & !(word == 0))
-}
-
-// An event's levels and access, where neither is bad.
-pub fn event_of(levels: u32, access: u32) -> Event
-    ensures { λ r. ⌜ r ≡ eventOf levels access ⌝ }
-{
-    if !(levels / 8192 == 0) | bad_access(access) {
-        return Event::Bad;
-    }
-    Event::Good {
-        levels: levels_of(levels),
-        access: access_of(access),
-    }
-}
-
-impl Levels {
-    // Before the first event all levels are high.
-    pub fn high() -> Levels
-        ensures { λ r. ⌜ r ≡ highLevels ⌝ }
-    {
-        Levels {
-            pins: 255,
-            cp1: true,
-            cp2: true,
-            gate: true,
-            clock: true,
-            reset: true,
-        }
-    }
-}
-
-impl Access {
-    // Between events there is no access.
-    pub fn none() -> Access
-        ensures { λ r. ⌜ r ≡ noAccess ⌝ }
-    {
-        Access {
-            present: false,
-            read: false,
-            code: 0,
-            address: 0,
-            byte: 0,
-        }
-    }
 }
 
 // Output bits from one byte, input bits from the other.
@@ -267,6 +171,9 @@ impl Combo {
             raised: false,
             cp1: levels.cp1,
             cp2: levels.cp2,
+            before1: false,
+            before2: false,
+            driven: false,
         }
     }
 
@@ -274,70 +181,70 @@ impl Combo {
     pub fn start() -> Combo
         ensures { λ r. ⌜ r ≡ startOf ⌝ }
     {
-        Combo::reset(Levels::high())
+        Combo::reset(levels_of(8191))
     }
 
-    fn cp1_edge(self, levels: Levels) -> bool
-        ensures { λ r. ⌜ r ≡ cp1Edge levels self ⌝ }
-    {
-        !(self.pcr / 128 % 2 == 1) & active_edge(self.pcr / 2 % 2 == 1, self.cp1, levels.cp1)
-    }
-
-    fn cp2_edge(self, levels: Levels) -> bool
-        ensures { λ r. ⌜ r ≡ cp2Edge levels self ⌝ }
-    {
-        let input = !(self.pcr / 32 % 2 == 1);
-        !(self.pcr / 128 % 2 == 1)
-            & input
-            & active_edge(self.pcr / 16 % 2 == 1, self.cp2, levels.cp2)
-    }
-
-    fn capture_at_edge(mut self, levels: Levels) -> Combo
-        ensures { λ r. ⌜ r ≡ capturing levels self ⌝ }
-    {
-        if (self.pcr / 4 % 2 == 1) & !self.captured & self.cp1_edge(levels) {
-            self.captured = true;
-            self.capture = levels.pins;
-            return self;
-        }
-        self
-    }
-
-    fn flag_edges(mut self, levels: Levels) -> Combo
-        ensures { λ r. ⌜ r ≡ flagged levels self ⌝ }
-    {
-        let one = self.cp1_edge(levels);
-        let two = self.cp2_edge(levels);
-        self.flag1 = self.flag1 | one;
-        self.flag2 = self.flag2 | two;
-        self
-    }
-
-    fn acknowledge(mut self) -> Combo
-        ensures { λ r. ⌜ r ≡ acknowledged self ⌝ }
-    {
-        self.strobed = self.touched;
-        self.touched = false;
-        self.raised = self.flag1;
-        self
-    }
-
+    // This cycle's levels, and beside them what the cycle before had.
     fn sample(mut self, levels: Levels) -> Combo
         ensures { λ r. ⌜ r ≡ sampled levels self ⌝ }
     {
+        self.strobed = self.touched;
+        self.touched = false;
+        self.before1 = self.cp1;
+        self.before2 = self.cp2;
         self.pins = levels.pins;
         self.cp1 = levels.cp1;
         self.cp2 = levels.cp2;
         self
     }
 
-    fn edges(self, levels: Levels) -> Combo
-        ensures { λ r. ⌜ r ≡ edged levels self ⌝ }
+    fn cp1_edge(self) -> bool
+        ensures { λ r. ⌜ r ≡ cp1Edge self ⌝ }
     {
-        self.capture_at_edge(levels)
-            .flag_edges(levels)
-            .acknowledge()
-            .sample(levels)
+        !(self.pcr / 128 % 2 == 1) & active_edge(self.pcr / 2 % 2 == 1, self.before1, self.cp1)
+    }
+
+    fn cp2_edge(self) -> bool
+        ensures { λ r. ⌜ r ≡ cp2Edge self ⌝ }
+    {
+        let input = !(self.pcr / 32 % 2 == 1);
+        !(self.pcr / 128 % 2 == 1)
+            & input
+            & active_edge(self.pcr / 16 % 2 == 1, self.before2, self.cp2)
+    }
+
+    fn capture_at_edge(mut self) -> Combo
+        ensures { λ r. ⌜ r ≡ capturing self ⌝ }
+    {
+        if (self.pcr / 4 % 2 == 1) & !self.captured & self.cp1_edge() {
+            self.captured = true;
+            self.capture = self.pins;
+            return self;
+        }
+        self
+    }
+
+    fn flag_edges(mut self) -> Combo
+        ensures { λ r. ⌜ r ≡ flagged self ⌝ }
+    {
+        let one = self.cp1_edge();
+        let two = self.cp2_edge();
+        self.flag1 = self.flag1 | one;
+        self.flag2 = self.flag2 | two;
+        self
+    }
+
+    fn mark(mut self) -> Combo
+        ensures { λ r. ⌜ r ≡ marked self ⌝ }
+    {
+        self.raised = self.flag1;
+        self
+    }
+
+    fn edges(self) -> Combo
+        ensures { λ r. ⌜ r ≡ edged self ⌝ }
+    {
+        self.capture_at_edge().flag_edges().mark()
     }
 
     fn clocks(mut self, levels: Levels) -> Combo
@@ -596,27 +503,13 @@ impl Combo {
         ensures { λ r. ⌜ r ≡ accessed select (now (rom .entry)) access self ⌝ }
     {
         if access.present {
-            return self.transfer(select, rom, access);
+            let chip = self;
+            let lines = select;
+            let asked = access;
+            let done = chip.transfer(lines, rom, asked);
+            return done;
         }
         self.answer(256)
-    }
-
-    // One cycle: edges, clocks, then the bus; in RESET the reset state, from which reads answer.
-    pub fn cycle(self, select: Select, rom: &[u8], levels: Levels, access: Access) -> Done
-        ensures { λ r. ⌜ r ≡ cycleOf select (now (rom .entry)) levels access self ⌝ }
-    {
-        if levels.reset {
-            return self.edges(levels).clocks(levels).serve(select, rom, access);
-        }
-        reset_cycle(select, rom, levels, access)
-    }
-
-    // CTO, the timer's pin.
-    pub fn cto(self) -> bool
-        ensures { λ r. ⌜ r ≡ ctoOf self ⌝ }
-    {
-        let timer = self.timer;
-        timer.pin(setting_of(timer))
     }
 
     fn cp2_out(self) -> bool
@@ -632,12 +525,42 @@ impl Combo {
         self.flag1 | self.raised
     }
 
+    fn show(mut self) -> Combo
+        ensures { λ r. ⌜ r ≡ shown self ⌝ }
+    {
+        let level = self.cp2_out();
+        self.driven = level;
+        self
+    }
+
+    // One cycle: sample, edges, clocks, the bus, what CP2 shows; in RESET the reset state, from which reads answer.
+    pub fn cycle(self, select: Select, rom: &[u8], levels: Levels, access: Access) -> Done
+        ensures { λ r. ⌜ r ≡ cycleOf select (now (rom .entry)) levels access self ⌝ }
+    {
+        if levels.reset {
+            let served = self.sample(levels)
+                .edges()
+                .clocks(levels)
+                .serve(select, rom, access);
+            return served.chip.show().answer(served.answer);
+        }
+        reset_cycle(select, rom, levels, access)
+    }
+
+    // CTO, the timer's pin.
+    pub fn cto(self) -> bool
+        ensures { λ r. ⌜ r ≡ ctoOf self ⌝ }
+    {
+        let timer = self.timer;
+        timer.pin(setting_of(timer))
+    }
+
     // CP2: the level driven, or as an input the last sampled.
     pub fn cp2_pin(self) -> bool
         ensures { λ r. ⌜ r ≡ cp2Of self ⌝ }
     {
         if self.pcr / 32 % 2 == 1 {
-            return self.cp2_out();
+            return self.driven;
         }
         self.cp2
     }

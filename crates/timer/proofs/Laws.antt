@@ -1,4 +1,4 @@
--- What the chips and the board cite of a timer, so that none of them unfolds a rule.
+-- What the chips cite of a timer, so that none of them unfolds a rule.
 use Prim.Native.Nat.{ℕ, _+_, _/_, _%_}
 use mathlib.Core.Path.{_≡_, refl, ap, _∙_}
 use mathlib.Core.Bool.{Bool, true, false, not, cond, _&&_}
@@ -10,7 +10,7 @@ use Rattle.timer.specs.declared.Setting.{Setting}
 use Rattle.timer.specs.declared.Mode.{Mode}
 use Rattle.timer.specs.declared.Mode.the-variants.{Continuous, SingleShot, Cascaded, Interval}
 use Rattle.timer.specs.Fields.{bit, withDivider, withInputs}
-use Rattle.timer.specs.Rules.{ticks, dividerAfter, modeOf, initialised, held, settled, written, latchWritten, started, caught, fell, rose, falls, rises, early, gated, timesOut, enabled, timedOut, countedDown, edged, reaches, loads, freeCycle, cycleOf, controlWritten, armedBy, msbRead, resetState, fits}
+use Rattle.timer.specs.Rules.{ticks, dividerAfter, modeOf, initialised, held, settled, written, latchWritten, started, caught, fell, rose, falls, rises, early, gated, timesOut, enabled, timedOut, countedDown, edged, reaches, freeCycle, cycleOf, controlWritten, armedBy, msbRead, resetState, fits}
 
 -- the fields that no gate, count or time-out touches: latch, control, divider and the sampled inputs
 pub record Kept : Type 0 where

@@ -1,6 +1,6 @@
 -- Plumbing: a bit of a number, the two bytes of a count, and a timer with a field changed.
 use Prim.Native.Nat.{ℕ, _/_, _%_, _^_}
-use mathlib.Core.Bool.{Bool, true, false}
+use mathlib.Core.Bool.{Bool}
 use lib.Dec.{eqb}
 use Rattle.timer.specs.declared.Timer.{Timer}
 

@@ -7,7 +7,7 @@ use Rattle.timer.specs.declared.Setting.{Setting}
 use Rattle.timer.specs.Fields.{withCounter, withDivider, withFlag, withLevel, withMarks, withInputs}
 use Rattle.timer.specs.Rules.{ticks, timesOut}
 
--- continuous, 16-bit and undivided, with no gate edge
+-- continuous, 16-bit and undivided, not in internal reset, with no gate edge
 unfoldable pub plain : Setting → Bool → Timer → Bool
 plain s gate t =
     not (s .held) && not (s .divided) && not (s .dual) && eqb (t .control / 8 % 2) 0 && eqb (t .control / 32 % 2) 0 && Bool·beq (t .gate) gate

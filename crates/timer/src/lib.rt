@@ -3,7 +3,7 @@ ghost use mathlib.Core.Path.{_≡_};
 ghost use mathlib.Core.Bool.{_&&_, not, true, false};
 ghost use Rattle.timer.specs.Fields.{msb, lsb, withDivider, withFlag, withLevel, withRunning, withMarks, withInputs};
 ghost use Rattle.timer.specs.Quick.{plain, plainClock, plainCycle};
-ghost use Rattle.timer.specs.Rules.{modeOf, ticks, dividerAfter, passes, held, settled, initialised, started, caught, written, latchWritten, fell, loads, rose, gated, enabled, fallen, shaped, lastRow, levelAfter, timedOut, countedDown, edged, reaches, freeCycle, cycleOf, pinOf, controlWritten, armedBy, msbRead, asks, resetState, fits};
+ghost use Rattle.timer.specs.Rules.{modeOf, ticks, dividerAfter, passes, held, settled, initialised, started, caught, early, written, latchWritten, fell, loads, rose, gated, enabled, fallen, shaped, lastRow, levelAfter, timedOut, countedDown, edged, reaches, freeCycle, cycleOf, pinOf, controlWritten, armedBy, msbRead, asks, resetState, fits};
 
 // What a timer keeps from cycle to cycle.
 #[repr(C)]
@@ -160,7 +160,7 @@ impl Timer {
     }
 
     fn early(self, pulse: bool, greater: bool) -> bool
-        ensures { λ r. ⌜ r ≡ (not pulse && not greater && self .running && not (self .lapsed)) ⌝ }
+        ensures { λ r. ⌜ r ≡ early pulse greater self ⌝ }
     {
         !pulse & !greater & self.running & !self.lapsed
     }
@@ -390,7 +390,7 @@ impl Timer {
         self.free_cycle(s, mode_of(s, self.control), gate, clock)
     }
 
-    // Continuous, 16-bit and undivided, with no gate edge.
+    // Continuous, 16-bit and undivided, not in internal reset, with no gate edge.
     fn plain(self, s: Setting, gate: bool) -> bool
         ensures { λ r. ⌜ r ≡ plain s gate self ⌝ }
     {

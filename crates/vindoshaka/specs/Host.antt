@@ -5,7 +5,7 @@ use mathlib.Core.List.{List}
 use Rattle.board.specs.declared.Board.{Board}
 use Rattle.board.specs.declared.Pins.{Pins}
 use Rattle.board.specs.declared.Started as board
-use Rattle.board.specs.Numbers.{numberOf, startNumber, reportNumber}
+use Rattle.outcomes.specs.Numbers.{numberOf, startNumber, reportNumber}
 use Rattle.board.specs.Calls.{Result}
 use Rattle.vindoshaka.specs.declared.Moved.{Moved}
 use Rattle.vindoshaka.specs.declared.Started.{Started}

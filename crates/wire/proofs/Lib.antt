@@ -9,3 +9,4 @@ pub mod Reached
 pub mod Progress
 pub mod Table
 pub mod Ranges
+pub mod Model

@@ -1,15 +1,15 @@
 -- Any board in its ranges, whether calls lead to it or not, stays in them through a cycle that is done.
 use Prim.Native.Nat.{ℕ, zero, suc, _+_, _-_, _%_, _^_, _<_, _≤_}
-use mathlib.Core.Path.{_≡_, refl, ap, sym, _∙_}
+use mathlib.Core.Path.{_≡_, refl, sym, _∙_}
 use mathlib.Core.Bool.{Bool, true, false, not, cond, xor, _&&_, _||_, false≢true}
 use mathlib.Core.List.{List, [], _∷_, _++_}
 use native.Mathlib.Omega.{arith}
 use lib.ListN.{length, length-append}
 use lib.Dec.{leb, ltb, eqb}
-use borrow.Author.Tests.{leb-true, leb-false, ltb-true, ltb-false, le-leb, lt-leb, lt-ltb, le-ltb, eqb-true, eqb-false}
+use borrow.Author.Tests.{leb-true, leb-false, ltb-true, ltb-false, le-leb, lt-ltb, le-ltb, eqb-true, eqb-false}
 use Rattle.wire.specs.Stamp.{nextStamp, gap, driverLimit, listenerLimit, inReach, driverWaits, listenerWaits}
 use Rattle.wire.specs.Order.{laterThan, spanOf, rising, inOrder}
-use Rattle.wire.specs.Pair.{Pair, Chip, Stop, Board, Cycled, Called, level, turns, driven, listened, stopIf, cycle, goesOn, called}
+use Rattle.wire.specs.Pair.{Pair, Chip, Stop, Board, Cycled, level, turns, driven, listened, stopIf, cycle, goesOn, called}
 use Rattle.wire.specs.Lockstep.{InRange}
 use Rattle.wire.proofs.Changes.{later-short}
 use Rattle.wire.proofs.Lead.{gap-below, driver-waits-gap, listener-waits-gap, in-reach-gap}

@@ -60,29 +60,17 @@ fn record(rng: &mut Rng) -> Record {
             raised: rng.chance(50),
             cp1: rng.chance(50),
             cp2: rng.chance(50),
+            before1: rng.chance(50),
+            before2: rng.chance(50),
+            driven: rng.chance(50),
         },
         ptm: raw::Ptm {
             timers: [timer(rng), timer(rng), timer(rng)],
             msb: rng.word() as u8,
             lsb: rng.word() as u8,
         },
-        levels6846: raw::Levels6846 {
-            pins: rng.word() as u8,
-            cp1: rng.chance(50),
-            cp2: rng.chance(50),
-            gate: rng.chance(50),
-            clock: rng.chance(50),
-            reset: rng.chance(50),
-        },
-        levels6840: raw::Levels6840 {
-            c1: rng.chance(50),
-            c2: rng.chance(50),
-            c3: rng.chance(50),
-            g1: rng.chance(50),
-            g2: rng.chance(50),
-            g3: rng.chance(50),
-            reset: rng.chance(50),
-        },
+        levels6846: rng.word(),
+        levels6840: rng.word(),
         stamp6846: rng.word(),
         stamp6840: rng.word(),
         ends: raw::Ends {
@@ -92,6 +80,15 @@ fn record(rng: &mut Rng) -> Record {
         done6846: rng.next() as usize,
         done6840: rng.next() as usize,
         places: [(); 64].map(|_| rng.word()),
+    }
+}
+
+/// A word of levels.
+struct Lines(u32);
+
+impl Lines {
+    fn high(&self, bit: usize) -> bool {
+        self.0 >> bit & 1 != 0
     }
 }
 
@@ -136,13 +133,15 @@ fn tame(rng: &mut Rng, record: &mut Record) {
     record.done6840 = rng.below(6) as usize;
     // The levels as the last cycle sampled them, so that the second emulator has such a board.
     if rng.chance(70) {
-        let (c, l) = (&mut record.combo, &record.levels6846);
-        (c.pins, c.cp1, c.cp2) = (l.pins, l.cp1, l.cp2);
-        (c.timer.gate, c.timer.clock) = (l.gate, l.clock);
-        let l = &record.levels6840;
-        let [one, two, three] = &mut record.ptm.timers;
-        (one.clock, two.clock, three.clock) = (l.c1, l.c2, l.c3);
-        (one.gate, two.gate, three.gate) = (l.g1, l.g2, l.g3);
+        record.levels6846 %= 1 << 13;
+        record.levels6840 %= 1 << 7;
+        let (c, l) = (&mut record.combo, Lines(record.levels6846));
+        (c.pins, c.cp1, c.cp2) = (record.levels6846 as u8, l.high(8), l.high(9));
+        (c.timer.gate, c.timer.clock) = (l.high(10), l.high(11));
+        let l = Lines(record.levels6840);
+        for (i, timer) in record.ptm.timers.iter_mut().enumerate() {
+            (timer.clock, timer.gate) = (l.high(i), l.high(i + 3));
+        }
     }
 }
 
@@ -182,6 +181,7 @@ fn settle(record: &mut Record) {
     c.armed2 &= c.flag2;
     c.captured &= c.pcr & 4 != 0;
     c.raised |= c.flag1;
+    c.driven = twin::driven(c);
 }
 
 pub fn is_settled(record: &Record) -> bool {

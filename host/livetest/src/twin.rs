@@ -25,12 +25,6 @@ fn timer(timer: &raw::Timer) -> Timer {
     }
 }
 
-/// The 6846's levels as its list last gave them.
-fn held_6846(board: &raw::Board) -> u32 {
-    let l = &board.levels6846;
-    l.pins as u32 | bits(&[l.cp1, l.cp2, l.gate, l.clock, l.reset]) << 8
-}
-
 /// The 6846's levels as its last cycle sampled them.
 fn sampled_6846(board: &raw::Board) -> u32 {
     let c = &board.combo;
@@ -39,19 +33,14 @@ fn sampled_6846(board: &raw::Board) -> u32 {
         c.cp2,
         c.timer.gate,
         c.timer.clock,
-        board.levels6846.reset,
+        board.levels6846 & 1 << 12 != 0,
     ];
     c.pins as u32 | bits(&lines) << 8
 }
 
-fn held_6840(board: &raw::Board) -> u32 {
-    let l = &board.levels6840;
-    bits(&[l.c1, l.c2, l.c3, l.g1, l.g2, l.g3, l.reset])
-}
-
 fn sampled_6840(board: &raw::Board) -> u32 {
     let [a, b, c] = &board.ptm.timers;
-    let reset = board.levels6840.reset;
+    let reset = board.levels6840 & 1 << 6 != 0;
     bits(&[a.clock, b.clock, c.clock, a.gate, b.gate, c.gate, reset])
 }
 
@@ -63,12 +52,23 @@ fn wired_bit(board: &raw::Board) -> u32 {
     }
 }
 
-/// The second emulator has one field for the levels held and sampled, so a record where they differ has no board there.
-/// Its book's end is below its room, and options are of any size in both.
+/// The level that CP2 drives, from the rest of the record: a cycle leaves no other.
+pub fn driven(c: &raw::Combo) -> bool {
+    match c.pcr >> 3 & 3 {
+        0 => c.flag1 || c.raised,
+        1 => !c.strobed,
+        2 => false,
+        _ => true,
+    }
+}
+
+/// The second emulator has one field for the levels held and sampled and none for the level that CP2 drives, so a record
+/// where they differ has no board there. Its book's end is below its room, and options are of any size in both.
 pub fn has_twin(board: &raw::Board) -> bool {
     let heard = !wired_bit(board);
-    held_6846(board) == sampled_6846(board)
-        && held_6840(board) & heard == sampled_6840(board) & heard
+    board.levels6846 == sampled_6846(board)
+        && board.levels6840 & heard == sampled_6840(board) & heard
+        && board.combo.driven == driven(&board.combo)
         && board.ends.first < 64
 }
 

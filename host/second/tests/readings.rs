@@ -1,4 +1,4 @@
-//! Points that the paper leaves open and its readers decided, and the numbers no run file reaches.
+//! Points of docs/DECISIONS.md, and the numbers no run file reaches.
 
 mod common;
 use common::*;

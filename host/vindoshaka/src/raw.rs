@@ -1,4 +1,4 @@
-//! The record and the calls as the library has them: the same text as `vindoshaka.h`, field by field.
+//! The record and the calls as the library has them: as `vindoshaka.h` has them, field by field.
 
 /// One programmable timer.
 #[repr(C)]
@@ -10,11 +10,11 @@ pub struct Timer {
     /// 0 to 7.
     pub divider: u8,
     pub flag: bool,
-    pub armed: bool,
     pub level: bool,
-    pub running: bool,
     pub counted: bool,
     pub lapsed: bool,
+    pub armed: bool,
+    pub running: bool,
     pub gate: bool,
     pub clock: bool,
 }
@@ -41,6 +41,10 @@ pub struct Combo {
     pub raised: bool,
     pub cp1: bool,
     pub cp2: bool,
+    pub before1: bool,
+    pub before2: bool,
+    /// The level of CP2 as an output.
+    pub driven: bool,
 }
 
 /// The MC6840 after its last cycle.
@@ -62,31 +66,6 @@ pub struct Select {
     pub extra: u8,
 }
 
-/// The input levels that the 6846 holds until its next event.
-#[repr(C)]
-#[derive(Clone, Copy, Debug, PartialEq, Eq)]
-pub struct Levels6846 {
-    pub pins: u8,
-    pub cp1: bool,
-    pub cp2: bool,
-    pub gate: bool,
-    pub clock: bool,
-    pub reset: bool,
-}
-
-/// The input levels that the 6840 holds until its next event.
-#[repr(C)]
-#[derive(Clone, Copy, Debug, PartialEq, Eq)]
-pub struct Levels6840 {
-    pub c1: bool,
-    pub c2: bool,
-    pub c3: bool,
-    pub g1: bool,
-    pub g2: bool,
-    pub g3: bool,
-    pub reset: bool,
-}
-
 /// The oldest waiting change's place, and how many wait.
 #[repr(C)]
 #[derive(Clone, Copy, Debug, PartialEq, Eq)]
@@ -103,8 +82,9 @@ pub struct Board {
     pub wire: u8,
     pub combo: Combo,
     pub ptm: Ptm,
-    pub levels6846: Levels6846,
-    pub levels6840: Levels6840,
+    /// The input levels held until the chip's next event, as an event's word has them.
+    pub levels6846: u32,
+    pub levels6840: u32,
     pub stamp6846: u32,
     pub stamp6840: u32,
     pub ends: Ends,

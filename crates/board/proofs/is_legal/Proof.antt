@@ -1,5 +1,4 @@
 -- `board::is_legal` meets its contract: each answer follows from the tests and calls on its way. Assumes nothing.
-use borrow.Author.Needs.{needs}
 use mathlib.Core.Path.{refl}
 use Rattle.board.specs.Record.{legal}
 use Rattle.board.proofs.is_legal.Statement.{statement}

@@ -1,5 +1,4 @@
 -- `board::list_fits` meets its contract: each answer follows from the tests and calls on its way. Assumes nothing.
-use borrow.Author.Needs.{needs}
 use mathlib.Core.Path.{refl}
 use Rattle.board.specs.Calls.{listFits}
 use Rattle.board.proofs.list_fits.Statement.{statement}

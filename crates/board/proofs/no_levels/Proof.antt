@@ -1,5 +1,4 @@
 -- `board::no_levels` meets its contract: each answer follows from the tests and calls on its way. Assumes nothing.
-use borrow.Author.Needs.{needs}
 use mathlib.Core.Path.{refl}
 use Rattle.board.specs.Record.{noLevels}
 use Rattle.board.proofs.no_levels.Statement.{statement}

@@ -209,6 +209,7 @@ fn stack_of(call: &mut Call, run: extern "C" fn(&mut Call)) -> usize {
     let top = (stack.as_mut_ptr() as usize + stack.len()) & !63;
     // SAFETY: the callee runs on the vector's memory, which outlives it, and the old stack pointer comes back.
     unsafe {
+        #[cfg(target_arch = "x86_64")]
         asm!(
             "mov r12, rsp",
             "mov rsp, {top}",
@@ -218,6 +219,18 @@ fn stack_of(call: &mut Call, run: extern "C" fn(&mut Call)) -> usize {
             run = in(reg) run,
             in("rdi") call,
             out("r12") _,
+            clobber_abi("C"),
+        );
+        #[cfg(target_arch = "aarch64")]
+        asm!(
+            "mov x20, sp",
+            "mov sp, {top}",
+            "blr {run}",
+            "mov sp, x20",
+            top = in(reg) top,
+            run = in(reg) run,
+            in("x0") call,
+            out("x20") _,
             clobber_abi("C"),
         );
     }

@@ -27,17 +27,15 @@ fn size_of_field<S, F>(_: impl Fn(&S) -> &F) -> usize {
 
 fn main() {
     fields!(
-        "timer", Timer, latch, counter, control, divider, flag, armed, level, running, counted,
-        lapsed, gate, clock
+        "timer", Timer, latch, counter, control, divider, flag, level, counted, lapsed, armed,
+        running, gate, clock
     );
     fields!(
         "combo", Combo, timer, msb, lsb, pcr, ddr, pdr, capture, pins, flag1, armed1, flag2,
-        armed2, captured, touched, strobed, raised, cp1, cp2
+        armed2, captured, touched, strobed, raised, cp1, cp2, before1, before2, driven
     );
     fields!("ptm", Ptm, timers, msb, lsb);
     fields!("select", Select, rom, io, a6, extra);
-    fields!("levels6846", Levels6846, pins, cp1, cp2, gate, clock, reset);
-    fields!("levels6840", Levels6840, c1, c2, c3, g1, g2, g3, reset);
     fields!("ends", Ends, first, waiting);
     fields!(
         "board", Board, select, wire, combo, ptm, levels6846, levels6840, stamp6846, stamp6840,

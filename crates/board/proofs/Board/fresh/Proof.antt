@@ -6,7 +6,7 @@ use Rattle.board.proofs.Board.fresh.Tie as tie
 
 returns : tie.Need-returns
 unfolding freshOf
-returns c = simp (c .high2 .ensures, c .before .high .ensures, c .before .before .start2 .ensures, c .before .before .before .start .ensures)
+returns c = simp (c .start2 .ensures, c .before .start .ensures)
 
 pub fresh-spec : {M : Type 1} → statement M
-fresh-spec = tie.close (tie.spec (search needs) (search needs) (search needs) (search needs) returns)
+fresh-spec = tie.close (tie.spec (search needs) (search needs) returns)

@@ -1,5 +1,4 @@
 -- `board::Board::refuse` meets its contract: each answer follows from the tests and calls on its way. Assumes nothing.
-use borrow.Author.Needs.{needs}
 use mathlib.Core.Path.{refl}
 use Rattle.board.specs.Calls.{refused}
 use Rattle.board.proofs.Board.refuse.Statement.{statement}

@@ -1,5 +1,4 @@
 -- `timer::Timer::catch` meets its contract: each answer follows from the tests and calls on its way. Assumes nothing.
-use borrow.Author.Needs.{needs}
 use mathlib.Core.Path.{refl}
 use Rattle.timer.specs.Rules.{caught}
 use Rattle.timer.proofs.Timer.catch.Statement.{statement}

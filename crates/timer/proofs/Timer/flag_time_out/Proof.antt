@@ -1,5 +1,4 @@
 -- `timer::Timer::flag_time_out` meets its contract: each answer follows from the tests and calls on its way. Assumes nothing.
-use borrow.Author.Needs.{needs}
 use mathlib.Core.Path.{refl}
 use Rattle.timer.specs.Rules.{timedOut}
 use Rattle.timer.proofs.Timer.flag_time_out.Statement.{statement}

@@ -1,5 +1,4 @@
 -- `timer::Timer::read_msb` meets its contract: each answer follows from the tests and calls on its way. Assumes nothing.
-use borrow.Author.Needs.{needs}
 use Rattle.timer.specs.Rules.{msbRead}
 use Rattle.timer.proofs.Timer.read_msb.Statement.{statement}
 use Rattle.timer.proofs.Timer.read_msb.Tie as tie
