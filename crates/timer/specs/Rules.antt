@@ -1,4 +1,5 @@
--- The section "Timer" of document 01, a definition for each rule, in its order and its words.
+-- The section "Timer" of document 01, a definition for each rule, in its order and its words, but that what another rule needs comes
+-- before it: initialising before internal reset, starting and catching an interval before the gate.
 use Prim.Native.Nat.{ℕ, _+_, _-_, _*_, _/_, _%_}
 use mathlib.Core.Bool.{Bool, true, false, not, cond, _&&_, _||_}
 use lib.Dec.{eqb, leb}
@@ -118,6 +119,13 @@ enabled SingleShot gate t = true
 enabled Cascaded gate t = true
 enabled (Interval pulse greater) gate t = t .running
 
+-- Time-out sets the flag when bit 3 is 0. Intervals: in 101 and 111 sets the flag and stops; otherwise marks "timed out".
+unfoldable pub timedOut : Mode → Timer → Timer
+timedOut Continuous t = withFlag true (t .armed) (withMarks (t .counted) true t)
+timedOut SingleShot t = withFlag true (t .armed) (withMarks (t .counted) true t)
+timedOut Cascaded t = withFlag true (t .armed) (withMarks (t .counted) true t)
+timedOut (Interval pulse greater) t = cond greater (caught t) (withMarks (t .counted) true t)
+
 -- Dual with LSB latch nonzero shapes the output. With LSB latch zero, as 16-bit.
 abbrev pub shaped : Setting → Timer → Bool
 shaped s t = s .dual && not (eqb (lsb (t .latch)) 0)
@@ -139,12 +147,29 @@ levelAfter SingleShot s t =
 levelAfter Cascaded s t = cond (timesOut t) (bit 7 (t .control)) (t .level)
 levelAfter (Interval pulse greater) s t = false
 
--- Time-out sets the flag when bit 3 is 0. Intervals: in 101 and 111 sets the flag and stops; otherwise marks "timed out".
-unfoldable pub timedOut : Mode → Timer → Timer
-timedOut Continuous t = withFlag true (t .armed) (withMarks (t .counted) true t)
-timedOut SingleShot t = withFlag true (t .armed) (withMarks (t .counted) true t)
-timedOut Cascaded t = withFlag true (t .armed) (withMarks (t .counted) true t)
-timedOut (Interval pulse greater) t = cond greater (caught t) (withMarks (t .counted) true t)
+-- Pin: level if bit 7 is set; cascaded, always the level.
+unfoldable pub pinIn : Mode → Timer → Bool
+pinIn Continuous t = t .level && bit 7 (t .control)
+pinIn SingleShot t = t .level && bit 7 (t .control)
+pinIn Cascaded t = t .level
+pinIn (Interval pulse greater) t = t .level && bit 7 (t .control)
+
+abbrev pub pinOf : Setting → Timer → Bool
+pinOf s t = pinIn (modeOf s (t .control)) t
+
+-- A control write that changes bits 3-5 clears running, level and marks.
+unfoldable pub controlWritten : ℕ → Timer → Timer
+controlWritten v t =
+    let u = withControl v t in
+    cond (eqb (v / 8 % 8) (t .control / 8 % 8)) u (withRunning false (withLevel false (withMarks false false u)))
+
+-- A status read arms every set flag.
+abbrev pub armedBy : Timer → Timer
+armedBy t = withFlag (t .flag) (t .armed || t .flag) t
+
+-- Reading the counter's MSB clears an armed flag. Flag clear, arm clear.
+unfoldable pub msbRead : Timer → Timer
+msbRead t = cond (t .armed) (withFlag false false t) t
 
 -- An enabled clock that passes: it counts, moves the level, marks "counted", and may be a time-out.
 unfoldable pub countedDown : Setting → Mode → Timer → Timer
@@ -170,30 +195,6 @@ freeCycle s m gate clock t =
 unfoldable pub cycleOf : Setting → Bool → Bool → Timer → Timer
 cycleOf s gate clock t =
     cond (s .held) (withInputs gate clock (held t)) (freeCycle s (modeOf s (t .control)) gate clock t)
-
--- Pin: level if bit 7 is set; cascaded, always the level.
-unfoldable pub pinIn : Mode → Timer → Bool
-pinIn Continuous t = t .level && bit 7 (t .control)
-pinIn SingleShot t = t .level && bit 7 (t .control)
-pinIn Cascaded t = t .level
-pinIn (Interval pulse greater) t = t .level && bit 7 (t .control)
-
-abbrev pub pinOf : Setting → Timer → Bool
-pinOf s t = pinIn (modeOf s (t .control)) t
-
--- A control write that changes bits 3-5 clears running, level and marks.
-unfoldable pub controlWritten : ℕ → Timer → Timer
-controlWritten v t =
-    let u = withControl v t in
-    cond (eqb (v / 8 % 8) (t .control / 8 % 8)) u (withRunning false (withLevel false (withMarks false false u)))
-
--- A status read arms every set flag.
-abbrev pub armedBy : Timer → Timer
-armedBy t = withFlag (t .flag) (t .armed || t .flag) t
-
--- Reading the counter's MSB clears an armed flag. Flag clear, arm clear.
-unfoldable pub msbRead : Timer → Timer
-msbRead t = cond (t .armed) (withFlag false false t) t
 
 -- Reset state: latches 65,535, counters equal, control registers 0 but TCR0 and CR10 = 1, everything else 0.
 abbrev pub resetState : ℕ → Bool → Bool → Timer
