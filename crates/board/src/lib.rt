@@ -78,8 +78,8 @@ impl Board {
             wire: wire,
             combo: combo,
             ptm: ptm,
-            levels6846: 8191,
-            levels6840: 127,
+            levels6846: signals::m6846::ALL_HIGH,
+            levels6840: signals::m6840::ALL_HIGH,
             stamp6846: stamp,
             stamp6840: stamp,
             ends: Ends {

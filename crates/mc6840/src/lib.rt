@@ -5,6 +5,7 @@ ghost use Rattle.timer.specs.Fields.{bit};
 ghost use Rattle.timer.specs.Rules as timer;
 ghost use Rattle.mc6840.specs.Fields.{withMsb};
 ghost use Rattle.mc6840.specs.Rules.{settingAt, resetOf, startOf, clocked, compositeOf, statusByte, statusOf, armedAll, msbReadAt, driven, afterRead, controlAt, latchAt, controlZero, stored, settledAll, accessed, underReset, cycleOf, outputsOf, inRange};
+use signals::m6840::ALL_HIGH;
 use signals::m6840::Access;
 use signals::m6840::Levels;
 use signals::m6840::levels_of;
@@ -92,7 +93,7 @@ impl Ptm {
     pub fn start() -> Ptm
         ensures { λ r. ⌜ r ≡ startOf ⌝ }
     {
-        Ptm::reset(levels_of(127))
+        Ptm::reset(levels_of(ALL_HIGH))
     }
 
     // Gate edges and clocks of the three timers.

@@ -6,6 +6,7 @@ ghost use Rattle.mc6846.specs.Fields.{withMsb, withDdr, done};
 ghost use Rattle.mc6846.specs.Port.{mixed, activeEdge, cp1Edge, cp2Edge, capturing, flagged, marked, pdrByte, released, touchedBy, pdrWritten, portCleared, portSettled, cp2Out, cp2Of, portOf};
 ghost use Rattle.mc6846.specs.Registers.{settingOf, a6Fits, extraFits, ioChosen, compositeOf, weight, statusOf, registerByte, statusRead, counterRead, afterRead, pcrWritten, tcrWritten, lsbWritten, stored, timerSettled, afterWrite};
 ghost use Rattle.mc6846.specs.Cycle.{sampled, resetOf, startOf, edged, clocked, readBy, writtenBy, transferred, accessed, shown, resetCycle, cycleOf, ctoOf, inRange};
+use signals::m6846::ALL_HIGH;
 use signals::m6846::Access;
 use signals::m6846::Levels;
 use signals::m6846::levels_of;
@@ -181,7 +182,7 @@ impl Combo {
     pub fn start() -> Combo
         ensures { λ r. ⌜ r ≡ startOf ⌝ }
     {
-        Combo::reset(levels_of(8191))
+        Combo::reset(levels_of(ALL_HIGH))
     }
 
     // This cycle's levels, and beside them what the cycle before had.
@@ -569,7 +570,8 @@ impl Combo {
     pub fn port(self) -> u8
         ensures { λ r. ⌜ r ≡ portOf self ⌝ }
     {
-        mix(self.ddr, self.pdr, self.pins)
+        let inputs = self.pins;
+        mix(self.ddr, self.pdr, inputs)
     }
 
     // The prescaler stands where it can: 0 to 7.

@@ -5,6 +5,9 @@ use crate::absent_with_bits;
 use crate::lowest_bit;
 use crate::reads_with_data;
 
+// Before the first event all levels are high.
+pub const ALL_HIGH: u32 = 127;
+
 // The levels of the input pins.
 pub struct Levels {
     pub c1: bool,

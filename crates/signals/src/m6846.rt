@@ -5,6 +5,9 @@ use crate::absent_with_bits;
 use crate::lowest_bit;
 use crate::reads_with_data;
 
+// Before the first event all levels are high.
+pub const ALL_HIGH: u32 = 8191;
+
 // The levels recognised in a cycle: P, CP1, CP2, CTG, CTC, RESET.
 pub struct Levels {
     pub pins: u8,
