@@ -17,22 +17,22 @@ wordsAt es n = record { stamp = getD es (n * 3) 0; levels = getD es (n * 3 + 1) 
 abbrev pub badStamp : ℕ → Bool
 badStamp far = eqb far 0 || ltb 2147483647 far
 
--- the word of no access
-abbrev pub noAccess : ℕ
-noAccess = 0
+-- Between events levels stay and there is no access: its word is 0.
+abbrev pub idleWith : ℕ → ℕ → Next
+idleWith held done = Cycle held 0 done
 
--- Each cycle is named by the stamp it gives and holds that stamp's event. Between events levels stay and there is no access.
+-- Each cycle is named by the stamp it gives and holds that stamp's event.
 unfoldable pub takenBy : Words → Bool → ℕ → ℕ → ℕ → Next
 takenBy e bad done stamp held =
     cond (badStamp (gap stamp (e .stamp)) || bad) Bad
     (cond (eqb (gap stamp (e .stamp)) 1) (Cycle (e .levels) (e .access) (done + 1))
-    (Cycle held noAccess done))
+    (idleWith held done))
 
 -- The next event, with what makes its other words bad; past the last there is none.
 unfoldable pub nextOf : (ℕ → ℕ → Bool) → List ℕ → ℕ → ℕ → ℕ → Next
 nextOf bad es done stamp held =
     let e = wordsAt es done in
-    cond (ltb done (length es / 3)) (takenBy e (bad (e .levels) (e .access)) done stamp held) (Cycle held noAccess done)
+    cond (ltb done (length es / 3)) (takenBy e (bad (e .levels) (e .access)) done stamp held) (idleWith held done)
 
 -- Each event has one answer place. Every place whose event is not yet done keeps its content, as do those of earlier calls.
 unfoldable pub answered : List ℕ → ℕ → ℕ → ℕ → List ℕ

@@ -4,7 +4,7 @@ ghost use Prim.Native.Nat.{_<_, _/_};
 ghost use lib.ListN.{length};
 ghost use Rattle.signals.specs.Words6846 as w6846;
 ghost use Rattle.signals.specs.Words6840 as w6840;
-ghost use Rattle.lists.specs.Events.{wordsAt, takenBy, nextOf, answered};
+ghost use Rattle.lists.specs.Events.{wordsAt, idleWith, takenBy, nextOf, answered};
 use signals::m6840;
 use signals::m6846;
 use wire::stamp::ahead;
@@ -38,6 +38,17 @@ fn event_at(events: &[u32], done: usize) -> Words
     }
 }
 
+// A cycle between events.
+fn idle(held: u32, done: usize) -> Next
+    ensures { λ r. ⌜ r ≡ idleWith held done ⌝ }
+{
+    Next::Cycle {
+        levels: held,
+        access: 0,
+        done: done,
+    }
+}
+
 // The event's cycle is the next one, or it is still to come, or it is bad.
 fn take(event: Words, bad: bool, done: usize, stamp: u32, held: u32) -> Next
     requires { ⌜ done < 18446744073709551615 ⌝ }
@@ -54,11 +65,7 @@ fn take(event: Words, bad: bool, done: usize, stamp: u32, held: u32) -> Next
             done: done + 1,
         };
     }
-    Next::Cycle {
-        levels: held,
-        access: 0,
-        done: done,
-    }
+    idle(held, done)
 }
 
 pub fn next_6846(events: &[u32], done: usize, stamp: u32, held: u32) -> Next
@@ -69,11 +76,7 @@ pub fn next_6846(events: &[u32], done: usize, stamp: u32, held: u32) -> Next
         let bad = m6846::is_bad(event.levels, event.access);
         return take(event, bad, done, stamp, held);
     }
-    Next::Cycle {
-        levels: held,
-        access: 0,
-        done: done,
-    }
+    idle(held, done)
 }
 
 pub fn next_6840(events: &[u32], done: usize, stamp: u32, held: u32) -> Next
@@ -84,11 +87,7 @@ pub fn next_6840(events: &[u32], done: usize, stamp: u32, held: u32) -> Next
         let bad = m6840::is_bad(event.levels, event.access);
         return take(event, bad, done, stamp, held);
     }
-    Next::Cycle {
-        levels: held,
-        access: 0,
-        done: done,
-    }
+    idle(held, done)
 }
 
 // An event's answer goes to its place; a cycle without event writes nothing.

@@ -15,7 +15,7 @@ returns-2 c = simp (eq-eqb _ _ (c .if2 .taken), c .before .if1 .left, ← (c .be
 
 returns-3 : tie.Need-returns-3
 unfolding takenBy
-returns-3 c = simp (ne-eqb _ _ (c .if2 .left), c .before .if1 .left, ← (c .before .before .ahead .ensures))
+returns-3 c = simp (c .idle .ensures, ne-eqb _ _ (c .before .if2 .left), c .before .before .if1 .left, ← (c .before .before .before .ahead .ensures))
 
 pub take-spec : {M : Type 1} → statement M
-take-spec = tie.close (tie.spec (search needs) returns (search needs) returns-2 returns-3)
+take-spec = tie.close (tie.spec (search needs) returns (search needs) returns-2 (search needs) returns-3)
