@@ -1,7 +1,7 @@
 -- Demand 3, proved: the calls of the board are those of the two machines of the crate `wire`, and what holds there holds here.
 use Prim.Native.Nat.{ℕ, zero, suc, ◌+◌, ◌/◌, ◌%◌, ◌^◌, ◌≤◌, ◌<◌, zero-le}
 use mathlib.Core.Path.{◌≡◌, refl, ap, sym, ◌∙◌}
-use mathlib.Core.Bool.{Bool, true, false, not, ◌||◌}
+use mathlib.Core.Bool.{Bool, true, false, ◌||◌}
 use mathlib.Core.List.{List, [], ◌∷◌}
 use native.Mathlib.Omega.{arith}
 use lib.ListN.{length, replicate, length-replicate}
@@ -62,12 +62,12 @@ module _ (S : Setup) where
         rw (k.wire, wired_or_none (wired_by S.wire) refl)
         (in_order_at_lem h.board.places h.board.ends h.board.stamp6840 h.board.stamp6846 r.short r.order)
 
-    in_reach : in_reach h.board.stamp6840 h.board.stamp6846 (wired_by h.board.wire) ≡ true
-    in_reach = rw k.wire r.reach
+    in_reach_lem : in_reach h.board.stamp6840 h.board.stamp6846 (wired_by h.board.wire) ≡ true
+    in_reach_lem = rw k.wire r.reach
 
     pub in_ranges_lem : in_ranges h.board ≡ true
     unfolding in_ranges
-    in_ranges_lem = rw (options_fit_lem, k.combo, k.ptm, book_fits_lem, in_reach)
+    in_ranges_lem = rw (options_fit_lem, k.combo, k.ptm, book_fits_lem, in_reach_lem)
 
     -- so that a call does its cycles
     abbrev world6846 : c6846.World

@@ -1,7 +1,7 @@
 -- A call that moves the 6846 is the driver's call of the crate `wire`.
-use Prim.Native.Nat.{ℕ, zero, suc, ◌+◌, ◌/◌, ◌≤◌}
+use Prim.Native.Nat.{ℕ, zero, suc, ◌/◌, ◌≤◌}
 use mathlib.Core.Path.{◌≡◌, refl, ap, sym, ◌∙◌}
-use mathlib.Core.Bool.{Bool, true, false, not, cond, xor, ◌&&◌}
+use mathlib.Core.Bool.{Bool, true, false, cond, xor, ◌&&◌}
 use mathlib.Core.List.{[], ◌∷◌, ◌++◌}
 use lib.ListN.{length}
 use lib.Dec.{leb}

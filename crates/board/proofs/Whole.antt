@@ -1,7 +1,7 @@
 -- Whole calls, refusals included, put together for any record: a call that is done leaves a record that the next one does not refuse.
 use Prim.Native.Nat.{ℕ, ◌+◌, ◌*◌, ◌/◌, ◌%◌, ◌^◌, ◌<◌, ◌≤◌}
 use mathlib.Core.Path.{◌≡◌, refl, ap, sym, ◌∙◌}
-use mathlib.Core.Bool.{Bool, true, false, not, ◌&&◌, ◌||◌, false≢true}
+use mathlib.Core.Bool.{Bool, true, false, ◌&&◌, ◌||◌, false≢true}
 use mathlib.Core.List.{List, []}
 use native.Mathlib.Omega.{arith}
 use lib.ListN.{length, replicate, length-replicate}
@@ -146,12 +146,12 @@ not_done : (o : Outcome) (k : ℕ) → number_of o ≡ k → 0 < k → o ≡ Don
 not_done o k e h d = let z : k ≡ 0 = sym e ∙ ap number_of d ∙ done-number in omega arith
 
 -- past the refusals a call is its cycles
-pub passes_6846 : (rom es : List ℕ) (n : ℕ) (b : Board) (xs : List ℕ) → in_ranges b ≡ true → eqb (length rom) 2048 ≡ true → list_fits (length es) b.done6846 ≡ true → leb (length es / 3) (length xs) ≡ true →
+passes_6846 : (rom es : List ℕ) (n : ℕ) (b : Board) (xs : List ℕ) → in_ranges b ≡ true → eqb (length rom) 2048 ≡ true → list_fits (length es) b.done6846 ≡ true → leb (length es / 3) (length xs) ≡ true →
     move6846 rom es n b xs ≡ moved6846 rom es n b xs
 unfolding move6846
 passes_6846 rom es n b xs p q r u = rw (p, q, r, u)
 
-pub passes_6840 : (es : List ℕ) (n : ℕ) (b : Board) (xs : List ℕ) → in_ranges b ≡ true → list_fits (length es) b.done6840 ≡ true → leb (length es / 3) (length xs) ≡ true →
+passes_6840 : (es : List ℕ) (n : ℕ) (b : Board) (xs : List ℕ) → in_ranges b ≡ true → list_fits (length es) b.done6840 ≡ true → leb (length es / 3) (length xs) ≡ true →
     move6840 es n b xs ≡ moved6840 es n b xs
 unfolding move6840
 passes_6840 es n b xs p r u = rw (p, r, u)

@@ -1,4 +1,6 @@
 // The board: an MC6846, an MC6840 and an optional wire from CTO to a clock input, each chip moved by its own list of events.
+#![tactic(auto)]
+
 ghost use Rattle.std.specs.Prelude.{◌≡◌};
 ghost use Rattle.board.specs.Record.{legal, wired_by, fresh_of, refused_start, start_of, options_fit, book_fits, in_ranges, levels_of, no_levels, report_of};
 ghost use Rattle.board.specs.Calls.{result_of, list_fits, move6846, move6840, moved6846, moved6840, refused, given6846, given6840, begun6846, begun6840, put6846, put6840};
@@ -13,7 +15,7 @@ use wire::stamp::{ahead, in_reach};
 
 // The whole record; a host may hold it. A place of the book that no waiting change stands in may hold anything.
 #[repr(C)]
-#[derive(Drop)]
+#[derive(Clone, Copy)]
 pub struct Board {
     pub select: Select,
     pub wire: u8,
@@ -30,20 +32,20 @@ pub struct Board {
     pub places: [u32; 64],
 }
 
-#[derive(Drop)]
+#[derive(Clone, Copy)]
 pub struct Started {
     pub board: Board,
     pub outcome: Begin,
 }
 
-#[derive(Drop)]
+#[derive(Clone, Copy)]
 pub struct Moved {
     pub board: Board,
     pub outcome: Outcome,
     pub count: u32,
 }
 
-#[derive(Drop)]
+#[derive(Clone, Copy)]
 pub struct Pins {
     pub outcome: Seen,
     pub port: u8,
@@ -56,6 +58,7 @@ pub struct Pins {
 }
 
 // The start options are of their values.
+#[tactic(auto, unfolding(crate::specs::Record::legal))]
 fn is_legal(rom: u32, io: u32, a6: u32, extra: u32, wire: u32) -> bool
     ensures { result ≡ legal rom io a6 extra wire }
 {
@@ -64,6 +67,7 @@ fn is_legal(rom: u32, io: u32, a6: u32, extra: u32, wire: u32) -> bool
 }
 
 impl Board {
+    #[tactic(auto, unfolding(crate::specs::Record::fresh_of))]
     fn fresh(select: Select, wire: u8, stamp: u32) -> Board
         ensures { result ≡ fresh_of select wire stamp }
     {
@@ -94,6 +98,7 @@ impl Board {
         !(self.wire == 0)
     }
 
+    #[tactic(auto, unfolding(crate::specs::Record::options_fit))]
     fn options_fit(self) -> bool
         ensures { result ≡ options_fit self }
     {
@@ -107,6 +112,7 @@ impl Board {
         )
     }
 
+    #[tactic(auto, unfolding(crate::specs::Record::book_fits))]
     fn book_fits(self) -> bool
         ensures { result ≡ book_fits self }
     {
@@ -117,6 +123,7 @@ impl Board {
     }
 
     // The record is inside the ranges of number 9.
+    #[tactic(auto, unfolding(crate::specs::Record::in_ranges))]
     fn in_ranges(self) -> bool
         ensures { result ≡ in_ranges self }
     {
@@ -126,6 +133,7 @@ impl Board {
         self.options_fit() & combo.in_range() & ptm.in_range() & self.book_fits() & reach
     }
 
+    #[tactic(auto, unfolding(crate::specs::Record::levels_of))]
     fn levels(self) -> Pins
         ensures { result ≡ levels_of self }
     {
@@ -144,6 +152,7 @@ impl Board {
         }
     }
 
+    #[tactic(auto, unfolding(crate::specs::Calls::refused))]
     fn refuse(self, outcome: Outcome) -> Moved
         ensures { result ≡ refused outcome self }
     {
@@ -154,6 +163,7 @@ impl Board {
         }
     }
 
+    #[tactic(auto, unfolding(crate::specs::Calls::given6846))]
     fn given_6846(self) -> Given6846
         ensures { result ≡ given6846 self }
     {
@@ -165,6 +175,7 @@ impl Board {
         }
     }
 
+    #[tactic(auto, unfolding(crate::specs::Calls::begun6846))]
     fn begin_6846(self) -> Run6846
         ensures { result ≡ begun6846 self }
     {
@@ -179,6 +190,7 @@ impl Board {
         }
     }
 
+    #[tactic(auto, unfolding(crate::specs::Calls::put6846))]
     fn put_6846(self, run: Run6846, places: [u32; 64]) -> Board
         ensures { result ≡ put6846 run places self }
     {
@@ -202,6 +214,7 @@ impl Board {
         }
     }
 
+    #[tactic(auto, unfolding(crate::specs::Calls::moved6846, crate::specs::Calls::after6846))]
     fn run_6846(self, rom: &[u8], events: &[u32], answers: &mut [u16], cycles: u32) -> Moved
         ensures { result_of result answers.new ≡ moved6846 rom.now events.now cycles self answers.old }
     {
@@ -224,6 +237,7 @@ impl Board {
         }
     }
 
+    #[tactic(auto, unfolding(crate::specs::Calls::given6840))]
     fn given_6840(self) -> Given6840
         ensures { result ≡ given6840 self }
     {
@@ -236,6 +250,7 @@ impl Board {
         }
     }
 
+    #[tactic(auto, unfolding(crate::specs::Calls::begun6840))]
     fn begin_6840(self) -> Run6840
         ensures { result ≡ begun6840 self }
     {
@@ -250,6 +265,7 @@ impl Board {
         }
     }
 
+    #[tactic(auto, unfolding(crate::specs::Calls::put6840))]
     fn put_6840(self, run: Run6840) -> Board
         ensures { result ≡ put6840 run self }
     {
@@ -274,6 +290,7 @@ impl Board {
         }
     }
 
+    #[tactic(auto, unfolding(crate::specs::Calls::moved6840, crate::specs::Calls::after6840))]
     fn run_6840(self, events: &[u32], answers: &mut [u16], cycles: u32) -> Moved
         ensures { result_of result answers.new ≡ moved6840 events.now cycles self answers.old }
     {
@@ -296,6 +313,7 @@ impl Board {
     }
 }
 
+#[tactic(auto, unfolding(crate::specs::Record::refused_start))]
 fn refused_start() -> Started
     ensures { result ≡ refused_start }
 {
@@ -313,6 +331,7 @@ fn refused_start() -> Started
 }
 
 // A board starts at a caller's stamp.
+#[tactic(auto, using(crate::proofs::Options::legal_small), unfolding(crate::specs::Record::start_of))]
 pub fn start(rom: u32, io: u32, a6: u32, extra: u32, wire: u32, stamp: u32) -> Started
     ensures { result ≡ start_of rom io a6 extra wire stamp }
 {
@@ -332,6 +351,7 @@ pub fn start(rom: u32, io: u32, a6: u32, extra: u32, wire: u32, stamp: u32) -> S
     refused_start()
 }
 
+#[tactic(auto, unfolding(crate::specs::Record::no_levels))]
 fn no_levels(outcome: Seen) -> Pins
     ensures { result ≡ no_levels outcome }
 {
@@ -348,6 +368,7 @@ fn no_levels(outcome: Seen) -> Pins
 }
 
 // The levels of the pins, once both chips have done the same cycles.
+#[tactic(auto, unfolding(crate::specs::Record::report_of))]
 pub fn report(board: Board) -> Pins
     ensures { result ≡ report_of board }
 {
@@ -361,6 +382,7 @@ pub fn report(board: Board) -> Pins
 }
 
 // A list of whole events, at least as many as were done.
+#[tactic(auto, unfolding(crate::specs::Calls::list_fits))]
 fn list_fits(length: usize, done: usize) -> bool
     ensures { result ≡ list_fits length done }
 {
@@ -368,6 +390,7 @@ fn list_fits(length: usize, done: usize) -> bool
 }
 
 // Moves the 6846 by so many cycles, until all are done or one is refused.
+#[tactic(auto, unfolding(crate::specs::Calls::move6846))]
 pub fn move_6846(
     board: Board,
     rom: &[u8],
@@ -393,6 +416,7 @@ pub fn move_6846(
 }
 
 // Moves the 6840 by so many cycles, until all are done or one is refused.
+#[tactic(auto, unfolding(crate::specs::Calls::move6840))]
 pub fn move_6840(board: Board, events: &[u32], answers: &mut [u16], cycles: u32) -> Moved
     ensures { result_of result answers.new ≡ move6840 events.now cycles board answers.old }
 {

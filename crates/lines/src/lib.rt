@@ -1,9 +1,11 @@
 // The lines of a text.
+#![tactic(auto)]
+
 ghost use Rattle.std.specs.Prelude.{◌≡◌, ◌<◌, length};
 ghost use Rattle.lines.specs.Lines.{line_end, line_of, shorn};
 
 // What stands at the start of a text.
-#[derive(Drop)]
+#[derive(Clone, Copy)]
 pub enum Line {
     // A line: how many bytes it has, and how many are passed with its end.
     Whole(usize, usize),
@@ -30,6 +32,7 @@ fn line_end(text: &[u8]) -> usize
 }
 
 // The bytes of a line of `n` once a CR at its end is dropped.
+#[tactic(auto, unfolding(crate::specs::Lines::shorn))]
 fn shear(text: &[u8], n: usize) -> usize
     requires { n < length text.now }
     ensures { result ≡ shorn text.now n }
@@ -44,6 +47,7 @@ fn shear(text: &[u8], n: usize) -> usize
 }
 
 // The first line of a text, of which no more comes where `whole` says so.
+#[tactic(auto, unfolding(crate::specs::Lines::line_of, crate::specs::Lines::last_of))]
 pub fn cut(text: &[u8], whole: bool) -> Line
     ensures { result ≡ line_of text.now whole }
 {

@@ -1,4 +1,6 @@
 // The next event of a list, and the places that the events' answers go to.
+#![tactic(auto)]
+
 ghost use Rattle.std.specs.Prelude.{◌≡◌, ◌<◌, ◌/◌, length};
 ghost use Rattle.signals.specs.Words6846 as w6846;
 ghost use Rattle.signals.specs.Words6840 as w6840;
@@ -8,7 +10,7 @@ use signals::{m6840, m6846};
 use wire::stamp::ahead;
 
 // An event: three words of a list.
-#[derive(Drop)]
+#[derive(Clone, Copy)]
 struct Words {
     stamp: u32,
     levels: u32,
@@ -16,7 +18,7 @@ struct Words {
 }
 
 // What the next cycle has: the words of its levels and of its access, and the events done after it; or the next event is bad.
-#[derive(Drop)]
+#[derive(Clone, Copy)]
 pub enum Next {
     Cycle {
         levels: u32,
@@ -26,6 +28,7 @@ pub enum Next {
     Bad,
 }
 
+#[tactic(auto, unfolding(crate::specs::Events::words_at))]
 fn event_at(events: &[u32], done: usize) -> Words
     requires { done < length events.now / 3 }
     ensures { result ≡ words_at events.now done }
@@ -50,6 +53,7 @@ fn idle(held: u32, done: usize) -> Next
 }
 
 // The event's cycle is the next one, or it is still to come, or it is bad.
+#[tactic(auto, unfolding(crate::specs::Events::taken_by))]
 fn take(event: Words, bad: bool, done: usize, stamp: u32, held: u32) -> Next
     requires { done < 18446744073709551615 }
     ensures { result ≡ taken_by event bad done stamp held }
@@ -68,6 +72,7 @@ fn take(event: Words, bad: bool, done: usize, stamp: u32, held: u32) -> Next
     idle(held, done)
 }
 
+#[tactic(auto, unfolding(crate::specs::Events::next_of))]
 pub fn next_6846(events: &[u32], done: usize, stamp: u32, held: u32) -> Next
     ensures { result ≡ next_of w6846.bad_event events.now done stamp held }
 {
@@ -79,6 +84,7 @@ pub fn next_6846(events: &[u32], done: usize, stamp: u32, held: u32) -> Next
     idle(held, done)
 }
 
+#[tactic(auto, unfolding(crate::specs::Events::next_of))]
 pub fn next_6840(events: &[u32], done: usize, stamp: u32, held: u32) -> Next
     ensures { result ≡ next_of w6840.bad_event events.now done stamp held }
 {
@@ -91,6 +97,7 @@ pub fn next_6840(events: &[u32], done: usize, stamp: u32, held: u32) -> Next
 }
 
 // An event's answer goes to its place; a cycle without event writes nothing.
+#[tactic(auto, unfolding(crate::specs::Events::answered))]
 pub fn answer(answers: &mut [u16], before: usize, after: usize, value: u16)
     ensures { answers.new ≡ answered answers.old before after value }
 {

@@ -8,7 +8,7 @@ use lib.ListN.{length}
 use Rattle.timer.specs.declared.Timer.{Timer}
 use Rattle.timer.specs.Fields.{bit}
 use Rattle.timer.specs.Rules.{fits}
-use Rattle.timer.proofs.Laws.{Stable, Fits, fits_stable, cycle_fits, Low, low_stable, cycle_low, cycle-gate, cycle-clock}
+use Rattle.timer.proofs.Laws.{cycle_fits, settled_fits, latch_fits, control_fits, armed_fits, msb_fits, reset_fits, cycle-gate, cycle-clock}
 use Rattle.mc6840.specs.declared.Ptm.{Ptm}
 use Rattle.signals.specs.declared.m6840.Levels.{Levels}
 use Rattle.signals.specs.declared.m6840.Access.{Access}
@@ -66,68 +66,10 @@ cycle_samples l a p k = by l.reset
     by true = rw k (clocked_samples l p)
     by false = reset_samples l
 
--- whichever way a test goes
-either : (P : Ptm → Type 0) (b : Bool) (x y : Ptm) → P x → P y → P (cond b x y)
-either P true x y s t = s
-either P false x y s t = t
-
-either_done : (P : Ptm → Type 0) (b : Bool) (x y : Done) → P x.chip → P y.chip → P (cond b x y).chip
-either_done P true x y s t = s
-either_done P false x y s t = t
-
-abbrev Three : Ptm → Type 0
-Three p = length p.timers ≡ 3
-
+-- Three timers, all in range.
 three : Timer → Timer → Timer → ℕ → ℕ → Ptm
 three a b c m n = record { timers = a ∷ b ∷ c ∷ []; msb = m; lsb = n }
 
--- What every operation of a timer keeps, the chip keeps of its three.
-module _ (P : Timer → Type 0) (S : Stable P) where
-  All : Ptm → Type 0
-  All p = P (timer_at 0 p) × P (timer_at 1 p) × P (timer_at 2 p)
-
-  settled_keeps : (p : Ptm) → All p → All (settled_all p)
-  unfolding All settled_all
-  settled_keeps p h = (S.settle _ _ h.0, S.settle _ _ h.1, S.settle _ _ h.2)
-
-  reset_keeps : (l : Levels) → All (reset_of l)
-  unfolding All reset_of
-  reset_keeps l = (S.reset 1 l.g1 l.c1, S.reset 0 l.g2 l.c2, S.reset 0 l.g3 l.c3)
-
-  -- whichever timer is changed
-  module _ (a b c : Timer) (m n : ℕ) (x : P a) (y : P b) (z : P c) where
-    abbrev chip : Ptm
-    chip = three a b c m n
-
-    read_keeps : (r : ℕ) → All (after_read r chip)
-    unfolding All after_read armed_all msb_read_at three
-    read_keeps r =
-        either All (eqb r 1) _ _ (S.arm a x, S.arm b y, S.arm c z)
-        (either All (eqb r 2) _ _ (S.msb a x, y, z) (either All (eqb r 4) _ _ (x, S.msb b y, z) (either All (eqb r 6) _ _ (x, y, S.msb c z) (x, y, z))))
-
-    stored_keeps : (r v : ℕ) → All (stored r v chip)
-    unfolding All stored control_zero control_at latch_at three
-    stored_keeps r v =
-        either All (eqb r 0) _ _ (either All (bit 0 b.control) _ _ (S.control v a x, y, z) (x, y, S.control v c z))
-        (either All (eqb r 1) _ _ (x, S.control v b y, z)
-        (either All (eqb r 2) _ _ (x, y, z)
-        (either All (eqb r 4) _ _ (x, y, z)
-        (either All (eqb r 6) _ _ (x, y, z)
-        (either All (eqb r 3) _ _ (S.latch _ _ a x, y, z)
-        (either All (eqb r 5) _ _ (x, S.latch _ _ b y, z)
-        (either All (eqb r 7) _ _ (x, y, S.latch _ _ c z) (x, y, z))))))))
-
-    access_keeps : (k : Access) → All (accessed k chip).chip
-    unfolding accessed
-    access_keeps k = either_done All k.read _ _ (read_keeps k.register) (settled_keeps _ (stored_keeps k.register k.byte))
-
-  -- a cycle, by what its clocks leave
-  cycle_by_lem : (l : Levels) (a : Access) (p : Ptm) → All (clocked l p) → All (cycle_of l a p).chip
-  unfolding All cycle_of under_reset clocked three
-  cycle_by_lem l a p h =
-      either_done All l.reset _ _ (either_done All a.present _ _ (access_keeps _ _ _ _ _ h.0 h.1 h.2 a) h) (reset_keeps l)
-
--- Ranges for 9: each prescaler, of timers 1 and 2 too, which the chip never divides.
 left : (x y : Bool) → x && y ≡ true → x ≡ true
 left true y h = refl
 left false y h = h
@@ -137,32 +79,97 @@ right true y h = h
 right false true h = refl
 right false false h = h
 
-all_fit : (p : Ptm) → in_range p ≡ true → All Fits fits_stable p
-unfolding All in_range
-all_fit p h =
-    let xy = left (fits (timer_at 0 p) && fits (timer_at 1 p)) _ h in
-    (left (fits (timer_at 0 p)) _ xy, right (fits (timer_at 0 p)) _ xy, right (fits (timer_at 0 p) && fits (timer_at 1 p)) _ h)
+module _ (p : Ptm) (h : in_range p ≡ true) where
+  first_fits : fits (timer_at 0 p) ≡ true
+  unfolding in_range
+  first_fits = left (fits (timer_at 0 p)) _ (left (fits (timer_at 0 p) && fits (timer_at 1 p)) _ h)
 
-in_range_lem : (p : Ptm) → All Fits fits_stable p → in_range p ≡ true
-unfolding All in_range
-in_range_lem p h = rw (h.0, h.1, h.2)
+  second_fits : fits (timer_at 1 p) ≡ true
+  unfolding in_range
+  second_fits = right (fits (timer_at 0 p)) _ (left (fits (timer_at 0 p) && fits (timer_at 1 p)) _ h)
 
-clocked_fit : (l : Levels) (p : Ptm) → All Fits fits_stable p → All Fits fits_stable (clocked l p)
-unfolding All clocked
-clocked_fit l p h = (cycle_fits _ _ _ _ h.0, cycle_fits _ _ _ _ h.1, cycle_fits _ _ _ _ h.2)
+  third-fits : fits (timer_at 2 p) ≡ true
+  unfolding in_range
+  third-fits = right (fits (timer_at 0 p) && fits (timer_at 1 p)) _ h
+
+three-fit : (a b c : Timer) (m n : ℕ) → fits a ≡ true → fits b ≡ true → fits c ≡ true → in_range (three a b c m n) ≡ true
+unfolding in_range three
+three-fit a b c m n x y z = rw (x, y, z)
+
+settled-in-range : (p : Ptm) → in_range p ≡ true → in_range (settled_all p) ≡ true
+unfolding settled_all three
+settled-in-range p h =
+    three-fit _ _ _ _ _ (settled_fits _ _ (first_fits p h)) (settled_fits _ _ (second_fits p h)) (settled_fits _ _ (third-fits p h))
+
+pub clocked-in-range : (l : Levels) (p : Ptm) → in_range p ≡ true → in_range (clocked l p) ≡ true
+unfolding clocked three
+clocked-in-range l p h =
+    three-fit _ _ _ _ _ (cycle_fits _ _ _ _ (first_fits p h)) (cycle_fits _ _ _ _ (second_fits p h)) (cycle_fits _ _ _ _ (third-fits p h))
+
+pub reset-in-range : (l : Levels) → in_range (reset_of l) ≡ true
+unfolding reset_of three
+reset-in-range l = three-fit _ _ _ _ _ (reset_fits 1 l.g1 l.c1) (reset_fits 0 l.g2 l.c2) (reset_fits 0 l.g3 l.c3)
 
 pub start_in_range : in_range start_of ≡ true
 unfolding start_of
-start_in_range = in_range_lem _ (reset_keeps Fits fits_stable _)
+start_in_range = reset-in-range _
+
+-- whichever way a test goes
+either : (P : Ptm → Type 0) (b : Bool) (x y : Ptm) → P x → P y → P (cond b x y)
+either P true x y s t = s
+either P false x y s t = t
+
+either_done : (P : Ptm → Type 0) (b : Bool) (x y : Done) → P x.chip → P y.chip → P (cond b x y).chip
+either_done P true x y s t = s
+either_done P false x y s t = t
+
+abbrev Fits : Ptm → Type 0
+Fits p = in_range p ≡ true
+
+abbrev Three : Ptm → Type 0
+Three p = length p.timers ≡ 3
+
+-- a chip in range, whatever the timer that was changed
+module _ (a b c : Timer) (m n : ℕ) (x : fits a ≡ true) (y : fits b ≡ true) (z : fits c ≡ true) where
+  abbrev chip : Ptm
+  chip = three a b c m n
+
+  read-in-range : (r : ℕ) → in_range (after_read r chip) ≡ true
+  unfolding after_read armed_all msb_read_at three
+  read-in-range r =
+      either Fits (eqb r 1) _ _ (three-fit _ _ _ _ _ (armed_fits a x) (armed_fits b y) (armed_fits c z))
+      (either Fits (eqb r 2) _ _ (three-fit _ _ _ _ _ (msb_fits a x) y z)
+      (either Fits (eqb r 4) _ _ (three-fit _ _ _ _ _ x (msb_fits b y) z)
+      (either Fits (eqb r 6) _ _ (three-fit _ _ _ _ _ x y (msb_fits c z))
+      (three-fit _ _ _ _ _ x y z))))
+
+  stored-in-range : (r v : ℕ) → in_range (stored r v chip) ≡ true
+  unfolding stored control_zero control_at latch_at three
+  stored-in-range r v =
+      either Fits (eqb r 0) _ _ (either Fits (bit 0 b.control) _ _ (three-fit _ _ _ _ _ (control_fits v a x) y z) (three-fit _ _ _ _ _ x y (control_fits v c z)))
+      (either Fits (eqb r 1) _ _ (three-fit _ _ _ _ _ x (control_fits v b y) z)
+      (either Fits (eqb r 2) _ _ (three-fit _ _ _ _ _ x y z)
+      (either Fits (eqb r 4) _ _ (three-fit _ _ _ _ _ x y z)
+      (either Fits (eqb r 6) _ _ (three-fit _ _ _ _ _ x y z)
+      (either Fits (eqb r 3) _ _ (three-fit _ _ _ _ _ (latch_fits _ _ a x) y z)
+      (either Fits (eqb r 5) _ _ (three-fit _ _ _ _ _ x (latch_fits _ _ b y) z)
+      (either Fits (eqb r 7) _ _ (three-fit _ _ _ _ _ x y (latch_fits _ _ c z))
+      (three-fit _ _ _ _ _ x y z))))))))
+
+  access-in-range : (k : Access) → in_range (accessed k chip).chip ≡ true
+  unfolding accessed
+  access-in-range k =
+      either_done Fits k.read _ _ (read-in-range k.register) (settled-in-range _ (stored-in-range k.register k.byte))
 
 -- A cycle keeps the chip in range.
 pub cycle_in_range : (l : Levels) (a : Access) (p : Ptm) → in_range p ≡ true → in_range (cycle_of l a p).chip ≡ true
-cycle_in_range l a p h = in_range_lem _ (cycle_by_lem Fits fits_stable l a p (clocked_fit l p (all_fit p h)))
-
--- Intervals: low, after every cycle, whatever the chip was.
-pub cycle-intervals_low : (l : Levels) (a : Access) (p : Ptm) → let q = (cycle_of l a p).chip in Low (timer_at 0 q) × Low (timer_at 1 q) × Low (timer_at 2 q)
-unfolding All clocked
-cycle-intervals_low l a p = cycle_by_lem Low low_stable l a p (cycle_low _ _ _ _, cycle_low _ _ _ _, cycle_low _ _ _ _)
+unfolding cycle_of under_reset clocked three
+cycle_in_range l a p h =
+    either_done Fits l.reset _ _
+    (either_done Fits a.present _ _
+    (access-in-range _ _ _ _ _ (cycle_fits _ _ _ _ (first_fits p h)) (cycle_fits _ _ _ _ (second_fits p h)) (cycle_fits _ _ _ _ (third-fits p h)) a)
+    (clocked-in-range l p h))
+    (reset-in-range l)
 
 -- A cycle keeps the row at three timers.
 pub cycle-length : (l : Levels) (a : Access) (p : Ptm) → length (cycle_of l a p).chip.timers ≡ 3

@@ -3,7 +3,7 @@ use Prim.Native.Nat.{ℕ}
 use mathlib.Core.Path.{◌≡◌, refl}
 use mathlib.Core.Bool.{Bool, true, false}
 use mathlib.Core.List.{List, [], ◌∷◌}
-use Rattle.timer.specs.Rules.{divider_after, mode_of, initialised, held, settled, written, latch_written, started, caught, fell, loads, rose, gated, fallen, enabled, level_after, timed_out, counted_down, lowered, edged, reaches, free_cycle, cycle_of as timer_cycle, pin_in, control_written, msb_read}
+use Rattle.timer.specs.Rules.{divider_after, mode_of, initialised, held, settled, written, latch_written, started, caught, fell, loads, rose, gated, fallen, enabled, level_after, timed_out, counted_down, edged, reaches, free_cycle, cycle_of as timer_cycle, pin_in, control_written, msb_read}
 use Rattle.mc6840.specs.declared.Ptm.{Ptm}
 use Rattle.signals.specs.declared.m6840.Levels.{Levels}
 use Rattle.signals.specs.declared.m6840.Access.{Access}
@@ -13,7 +13,7 @@ use Rattle.mc6840.specs.Rules.{setting_at, reset_of, start_of, clocked, composit
 
 -- to unfold this is to unfold every rule
 rules : Bool
-unfolding divider_after mode_of initialised held settled written latch_written started caught fell loads rose gated fallen enabled level_after timed_out counted_down lowered edged reaches free_cycle timer_cycle pin_in control_written msb_read setting_at reset_of start_of clocked composite_of status_byte status_of armed_all msb_read_at driven after_read control_at latch_at control_zero stored settled_all accessed under_reset cycle_of levels_of
+unfolding divider_after mode_of initialised held settled written latch_written started caught fell loads rose gated fallen enabled level_after timed_out counted_down edged reaches free_cycle timer_cycle pin_in control_written msb_read setting_at reset_of start_of clocked composite_of status_byte status_of armed_all msb_read_at driven after_read control_at latch_at control_zero stored settled_all accessed under_reset cycle_of levels_of
 rules = true
 
 -- gates low, clocks high, no RESET

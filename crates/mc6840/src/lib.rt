@@ -1,4 +1,6 @@
 // The MC6840: three timers side by side behind eight registers.
+#![tactic(auto)]
+
 ghost use Rattle.std.specs.Prelude.{◌≡◌, ◌<◌};
 ghost use Rattle.timer.specs.Fields.{bit};
 ghost use Rattle.timer.specs.Rules as timer;
@@ -10,7 +12,7 @@ use timer::{Setting, Timer};
 
 // The three timers, whose control bytes are CR1 to CR3, the one MSB buffer and the one LSB buffer.
 #[repr(C)]
-#[derive(Drop)]
+#[derive(Clone, Copy)]
 pub struct Ptm {
     pub timers: [Timer; 3],
     pub msb: u8,
@@ -18,7 +20,7 @@ pub struct Ptm {
 }
 
 // The levels of the output pins.
-#[derive(Drop)]
+#[derive(Clone, Copy)]
 pub struct Outputs {
     pub o1: bool,
     pub o2: bool,
@@ -26,7 +28,7 @@ pub struct Outputs {
 }
 
 // The chip after a cycle, and the byte read or 256.
-#[derive(Drop)]
+#[derive(Clone, Copy)]
 pub struct Done {
     pub chip: Ptm,
     pub answer: u16,
@@ -38,6 +40,7 @@ fn low_bit(x: u32) -> bool
     x % 2 == 1
 }
 
+#[tactic(auto, unfolding(crate::specs::Rules::status_byte))]
 fn status_byte(first: bool, second: bool, third: bool, any: bool) -> u16
     ensures { result ≡ status_byte first second third any }
 {
@@ -60,6 +63,7 @@ fn cycle_third(t: Timer, s: Setting, gate: bool, clock: bool) -> Timer
 
 impl Ptm {
     // What the chip says of timer 1, 2, 3, at 0, 1, 2.
+    #[tactic(auto, unfolding(crate::specs::Rules::setting_at))]
     fn setting(self, i: usize) -> Setting
         requires { i < 3 }
         ensures { result ≡ setting_at i self }
@@ -75,6 +79,7 @@ impl Ptm {
         }
     }
 
+    #[tactic(auto, unfolding(crate::specs::Rules::reset_of))]
     fn reset(levels: Levels) -> Ptm
         ensures { result ≡ reset_of levels }
     {
@@ -89,6 +94,7 @@ impl Ptm {
         }
     }
 
+    #[tactic(auto, unfolding(crate::specs::Rules::start_of))]
     pub fn start() -> Ptm
         ensures { result ≡ start_of }
     {
@@ -96,6 +102,7 @@ impl Ptm {
     }
 
     // Gate edges and clocks of the three timers.
+    #[tactic(auto, unfolding(crate::specs::Rules::clocked))]
     fn clock(self, levels: Levels) -> Ptm
         ensures { result ≡ clocked levels self }
     {
@@ -114,6 +121,7 @@ impl Ptm {
     }
 
     // Any enabled flag is set.
+    #[tactic(auto, unfolding(crate::specs::Rules::composite_of))]
     pub fn composite(self) -> bool
         ensures { result ≡ composite_of self }
     {
@@ -123,6 +131,7 @@ impl Ptm {
         t1.interrupts() | t2.interrupts() | t3.interrupts()
     }
 
+    #[tactic(auto, unfolding(crate::specs::Rules::status_of))]
     fn status(self) -> u16
         ensures { result ≡ status_of self }
     {
@@ -132,6 +141,7 @@ impl Ptm {
         status_byte(t1.flag, t2.flag, t3.flag, self.composite())
     }
 
+    #[tactic(auto, unfolding(crate::specs::Rules::armed_all))]
     fn arm(self) -> Ptm
         ensures { result ≡ armed_all self }
     {
@@ -146,6 +156,7 @@ impl Ptm {
         }
     }
 
+    #[tactic(auto, unfolding(crate::specs::Rules::msb_read_at))]
     fn read_msb(mut self, i: usize) -> Ptm
         requires { i < 3 }
         ensures { result ≡ msb_read_at i self }
@@ -158,6 +169,7 @@ impl Ptm {
     }
 
     // What a read of a register drives: its byte, or 256 for nothing.
+    #[tactic(auto, unfolding(crate::specs::Rules::driven))]
     fn drive(self, register: u8) -> u16
         ensures { result ≡ driven register self }
     {
@@ -176,6 +188,7 @@ impl Ptm {
         }
     }
 
+    #[tactic(auto, unfolding(crate::specs::Rules::after_read))]
     fn after_read(self, register: u8) -> Ptm
         ensures { result ≡ after_read register self }
     {
@@ -188,6 +201,7 @@ impl Ptm {
         }
     }
 
+    #[tactic(auto, unfolding(crate::specs::Rules::control_at))]
     fn write_control(mut self, i: usize, value: u8) -> Ptm
         requires { i < 3 }
         ensures { result ≡ control_at i value self }
@@ -199,6 +213,7 @@ impl Ptm {
     }
 
     // W, with the MSB buffer.
+    #[tactic(auto, unfolding(crate::specs::Rules::latch_at))]
     fn write_latch(mut self, i: usize, value: u8) -> Ptm
         requires { i < 3 }
         ensures { result ≡ latch_at i value self }
@@ -217,6 +232,7 @@ impl Ptm {
     }
 
     // CR20 says which control register stands at 0.
+    #[tactic(auto, unfolding(crate::specs::Rules::control_zero))]
     fn write_zero(self, value: u8) -> Ptm
         ensures { result ≡ control_zero value self }
     {
@@ -227,6 +243,7 @@ impl Ptm {
         self.write_control(2, value)
     }
 
+    #[tactic(auto, unfolding(crate::specs::Rules::stored))]
     fn store(self, register: u8, value: u8) -> Ptm
         ensures { result ≡ stored register value self }
     {
@@ -243,6 +260,7 @@ impl Ptm {
         }
     }
 
+    #[tactic(auto, unfolding(crate::specs::Rules::settled_all))]
     fn settle(self) -> Ptm
         ensures { result ≡ settled_all self }
     {
@@ -260,6 +278,7 @@ impl Ptm {
         }
     }
 
+    #[tactic(auto, unfolding(crate::specs::Rules::accessed))]
     fn access(self, access: Access) -> Done
         ensures { result ≡ accessed access self }
     {
@@ -278,6 +297,7 @@ impl Ptm {
     }
 
     // RESET low: a read answers and leaves all alone, a write does nothing.
+    #[tactic(auto, unfolding(crate::specs::Rules::under_reset))]
     fn stay(self, access: Access) -> Done
         ensures { result ≡ under_reset access self }
     {
@@ -294,6 +314,7 @@ impl Ptm {
     }
 
     // One cycle: RESET, or gate edges and clocks and then the bus access, on copies.
+    #[tactic(auto, unfolding(crate::specs::Rules::cycle_of))]
     pub fn cycle(self, levels: Levels, access: Access) -> Done
         ensures { result ≡ cycle_of levels access self }
     {
@@ -317,6 +338,7 @@ impl Ptm {
     }
 
     // The pins O1 to O3.
+    #[tactic(auto, unfolding(crate::specs::Rules::outputs_of))]
     pub fn outputs(self) -> Outputs
         ensures { result ≡ outputs_of self }
     {
@@ -331,6 +353,7 @@ impl Ptm {
     }
 
     // Each prescaler stands at 0 to 7.
+    #[tactic(auto, unfolding(crate::specs::Rules::in_range))]
     pub fn in_range(self) -> bool
         ensures { result ≡ in_range self }
     {

@@ -18,7 +18,7 @@ use Rattle.mc6846.specs.Cycle as cycle
 
 -- to unfold this is to unfold every rule
 rules : Bool
-unfolding divider_after mode_of initialised held settled written latch_written started caught fell loads rose gated fallen enabled level_after timed_out counted_down free_cycle pin_in control_written msb_read timer.lowered timer.edged timer.reaches timer.cycle_of port.mixed port.active_edge port.cp1_edge port.cp2_edge port.capturing port.flagged port.marked port.pdr_byte port.released port.touched_by port.pdr_written port.port_cleared port.port_settled port.cp2_out port.cp2_of registers.setting_of registers.a6_fits registers.extra_fits registers.io_chosen registers.composite_of registers.weight registers.status_of registers.register_byte registers.status_read registers.counter_read registers.after_read registers.pcr_written registers.tcr_written registers.lsb_written registers.stored registers.timer_settled registers.after_write cycle.sampled cycle.reset_of cycle.edged cycle.clocked cycle.read_by cycle.written_by cycle.transferred cycle.accessed cycle.shown cycle.reset_cycle cycle_of cto_of levels_of
+unfolding divider_after mode_of initialised held settled written latch_written started caught fell loads rose gated fallen enabled level_after timed_out counted_down free_cycle pin_in control_written msb_read timer.edged timer.reaches timer.cycle_of port.mixed port.active_edge port.cp1_edge port.cp2_edge port.capturing port.flagged port.marked port.pdr_byte port.released port.touched_by port.pdr_written port.port_cleared port.port_settled port.cp2_out port.cp2_of registers.setting_of registers.a6_fits registers.extra_fits registers.io_chosen registers.composite_of registers.weight registers.status_of registers.register_byte registers.status_read registers.counter_read registers.after_read registers.pcr_written registers.tcr_written registers.lsb_written registers.stored registers.timer_settled registers.after_write cycle.sampled cycle.reset_of cycle.edged cycle.clocked cycle.read_by cycle.written_by cycle.transferred cycle.accessed cycle.shown cycle.reset_cycle cycle_of cto_of levels_of
 rules = true
 
 -- Start's CTO is low.

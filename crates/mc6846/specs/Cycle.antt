@@ -1,6 +1,5 @@
 -- The section "One cycle" of document 01, for the 6846.
 use Rattle.std.specs.Prelude.{ℕ, ◌%◌, Bool, false, cond, List, get_or}
-use Rattle.timer.specs.Fields.{bit}
 use Rattle.timer.specs.Rules.{reset_state, pin_of, fits}
 use Rattle.timer.specs.Rules as timer
 use Rattle.mc6846.specs.declared.Combo.{Combo}
@@ -10,7 +9,7 @@ use Rattle.mc6846.specs.declared.Select.{Select}
 use Rattle.mc6846.specs.declared.Done.{Done}
 use Rattle.mc6846.specs.Fields.{with_timer, with_touched, with_strobed, with_levels, with_before, with_driven, done}
 use Rattle.signals.specs.Words6846.{all_high, levels_of}
-use Rattle.mc6846.specs.Port.{capturing, flagged, marked, port_cleared, cp2_out}
+use Rattle.mc6846.specs.Port.{capturing, flagged, marked, cp2_out}
 use Rattle.mc6846.specs.Registers.{setting_of, rom_chosen, io_chosen, register_byte, after_read, after_write}
 
 -- Sample levels. What the cycle before had of CP1 and CP2, and whether it had a PDR access, is kept beside them.
@@ -49,9 +48,9 @@ reset_of l = record {
 abbrev pub start_of : Combo
 start_of = reset_of (levels_of all_high)
 
--- Gate and CP edges: CP1's and CP2's. The gate's is the timer's. While PCR7=1 what they set is held clear.
+-- Gate and CP edges: CP1's and CP2's. The gate's is the timer's.
 unfoldable pub edged : Combo → Combo
-edged c = marked (cond (bit 7 c.pcr) (port_cleared c) (flagged (capturing c)))
+edged c = marked (flagged (capturing c))
 
 -- Clocks: the timer's, after its gate edge.
 unfoldable pub clocked : Levels → Combo → Combo

@@ -1,4 +1,6 @@
 // The MC6846: ROM, port and timer, a cycle at a time.
+#![tactic(auto)]
+
 ghost use Rattle.std.specs.Prelude.{◌≡◌, get_or};
 ghost use Rattle.timer.specs.Fields.{bit};
 ghost use Rattle.mc6846.specs.Fields.{with_msb, with_ddr, done};
@@ -11,7 +13,7 @@ use timer::{Setting, Timer};
 
 // What the chip keeps from cycle to cycle; strobed, raised and the levels before are made anew in each.
 #[repr(C)]
-#[derive(Drop)]
+#[derive(Clone, Copy)]
 pub struct Combo {
     pub timer: Timer,
     // the buffers of the counter's two bytes
@@ -46,7 +48,7 @@ pub struct Combo {
 
 // What selects ROM and I/O: their codes, the A6 option, the extra line.
 #[repr(C)]
-#[derive(Drop)]
+#[derive(Clone, Copy)]
 pub struct Select {
     pub rom: u8,
     pub io: u8,
@@ -55,7 +57,7 @@ pub struct Select {
 }
 
 // The chip after a cycle, and the byte read or 256.
-#[derive(Drop)]
+#[derive(Clone, Copy)]
 pub struct Done {
     pub chip: Combo,
     pub answer: u16,
@@ -68,12 +70,14 @@ fn lowest_bit(word: u32) -> bool
 }
 
 // Output bits from one byte, input bits from the other.
+#[tactic(auto, unfolding(crate::specs::Port::mixed))]
 fn mix(ddr: u8, outputs: u8, inputs: u8) -> u8
     ensures { result ≡ mixed ddr outputs inputs }
 {
     (ddr & outputs) | (!ddr & inputs)
 }
 
+#[tactic(auto, unfolding(crate::specs::Port::active_edge))]
 fn active_edge(rising: bool, before: bool, level: bool) -> bool
     ensures { result ≡ active_edge rising before level }
 {
@@ -83,6 +87,7 @@ fn active_edge(rising: bool, before: bool, level: bool) -> bool
     before & !level
 }
 
+#[tactic(auto, unfolding(crate::specs::Registers::setting_of))]
 fn setting_of(t: Timer) -> Setting
     ensures { result ≡ setting_of t }
 {
@@ -94,6 +99,7 @@ fn setting_of(t: Timer) -> Setting
     }
 }
 
+#[tactic(auto, unfolding(crate::specs::Registers::a6_fits))]
 fn fits_a6(option: u8, address: u16) -> bool
     ensures { result ≡ a6_fits option address }
 {
@@ -107,6 +113,7 @@ fn fits_a6(option: u8, address: u16) -> bool
     option == 2
 }
 
+#[tactic(auto, unfolding(crate::specs::Registers::extra_fits))]
 fn fits_extra(line: u8, address: u16) -> bool
     ensures { result ≡ extra_fits line address }
 {
@@ -120,6 +127,7 @@ fn fits_extra(line: u8, address: u16) -> bool
     }
 }
 
+#[tactic(auto, unfolding(crate::specs::Registers::io_chosen))]
 fn io_chosen(select: Select, access: Access) -> bool
     ensures { result ≡ io_chosen select access }
 {
@@ -138,6 +146,7 @@ fn rom_byte(rom: &[u8], address: u16) -> u8
     0
 }
 
+#[tactic(auto, unfolding(crate::specs::Registers::weight))]
 fn weigh(set: bool, value: u8) -> u8
     ensures { result ≡ weight set value }
 {
@@ -149,6 +158,7 @@ fn weigh(set: bool, value: u8) -> u8
 
 impl Combo {
     // The reset state, with the levels sampled in that cycle.
+    #[tactic(auto, unfolding(crate::specs::Cycle::reset_of))]
     fn reset(levels: Levels) -> Combo
         ensures { result ≡ reset_of levels }
     {
@@ -185,6 +195,7 @@ impl Combo {
     }
 
     // This cycle's levels, and beside them what the cycle before had.
+    #[tactic(auto, unfolding(crate::specs::Cycle::sampled))]
     fn sample(mut self, levels: Levels) -> Combo
         ensures { result ≡ sampled levels self }
     {
@@ -198,33 +209,36 @@ impl Combo {
         self
     }
 
+    #[tactic(auto, unfolding(crate::specs::Port::cp1_edge))]
     fn cp1_edge(self) -> bool
         ensures { result ≡ cp1_edge self }
     {
-        active_edge(self.pcr / 2 % 2 == 1, self.before1, self.cp1)
+        !(self.pcr / 128 % 2 == 1) & active_edge(self.pcr / 2 % 2 == 1, self.before1, self.cp1)
     }
 
+    #[tactic(auto, unfolding(crate::specs::Port::cp2_edge))]
     fn cp2_edge(self) -> bool
         ensures { result ≡ cp2_edge self }
     {
         let input = !(self.pcr / 32 % 2 == 1);
-        input & active_edge(self.pcr / 16 % 2 == 1, self.before2, self.cp2)
+        !(self.pcr / 128 % 2 == 1)
+            & input
+            & active_edge(self.pcr / 16 % 2 == 1, self.before2, self.cp2)
     }
 
+    #[tactic(auto, unfolding(crate::specs::Port::capturing))]
     fn capture_at_edge(mut self) -> Combo
         ensures { result ≡ capturing self }
     {
-        if self.pcr / 4 % 2 == 1 {
-            if !self.captured & self.cp1_edge() {
-                self.captured = true;
-                self.capture = self.pins;
-                return self;
-            }
+        if (self.pcr / 4 % 2 == 1) & !self.captured & self.cp1_edge() {
+            self.captured = true;
+            self.capture = self.pins;
             return self;
         }
-        self.release()
+        self
     }
 
+    #[tactic(auto, unfolding(crate::specs::Port::flagged))]
     fn flag_edges(mut self) -> Combo
         ensures { result ≡ flagged self }
     {
@@ -235,6 +249,7 @@ impl Combo {
         self
     }
 
+    #[tactic(auto, unfolding(crate::specs::Port::marked))]
     fn mark(mut self) -> Combo
         ensures { result ≡ marked self }
     {
@@ -242,16 +257,14 @@ impl Combo {
         self
     }
 
-    // While PCR7=1 what edges set is held clear.
+    #[tactic(auto, unfolding(crate::specs::Cycle::edged))]
     fn edges(self) -> Combo
         ensures { result ≡ edged self }
     {
-        if self.pcr / 128 % 2 == 1 {
-            return self.clear_port().mark();
-        }
         self.capture_at_edge().flag_edges().mark()
     }
 
+    #[tactic(auto, unfolding(crate::specs::Cycle::clocked))]
     fn clocks(mut self, levels: Levels) -> Combo
         ensures { result ≡ clocked levels self }
     {
@@ -262,6 +275,7 @@ impl Combo {
     }
 
     // The timer's flag or a port's is set and enabled.
+    #[tactic(auto, unfolding(crate::specs::Registers::composite_of))]
     pub fn composite(self) -> bool
         ensures { result ≡ composite_of self }
     {
@@ -271,6 +285,7 @@ impl Combo {
         timer.interrupts() | (one | two)
     }
 
+    #[tactic(auto, unfolding(crate::specs::Registers::weight, crate::specs::Registers::status_of))]
     fn status(self) -> u8
         ensures { result ≡ status_of self }
     {
@@ -281,6 +296,7 @@ impl Combo {
             + weigh(self.composite(), 128)
     }
 
+    #[tactic(auto, unfolding(crate::specs::Port::pdr_byte))]
     fn pdr_byte(self) -> u8
         ensures { result ≡ pdr_byte self }
     {
@@ -290,6 +306,7 @@ impl Combo {
         mix(self.ddr, self.pdr, self.pins)
     }
 
+    #[tactic(auto, unfolding(crate::specs::Registers::register_byte))]
     fn register_byte(self, register: u16) -> u8
         ensures { result ≡ register_byte register self }
     {
@@ -306,6 +323,7 @@ impl Combo {
         }
     }
 
+    #[tactic(auto, unfolding(crate::specs::Registers::status_read))]
     fn read_status(mut self) -> Combo
         ensures { result ≡ status_read self }
     {
@@ -317,6 +335,7 @@ impl Combo {
         self
     }
 
+    #[tactic(auto, unfolding(crate::specs::Registers::counter_read))]
     fn read_counter(mut self) -> Combo
         ensures { result ≡ counter_read self }
     {
@@ -327,6 +346,7 @@ impl Combo {
         self
     }
 
+    #[tactic(auto, unfolding(crate::specs::Port::released))]
     fn release(mut self) -> Combo
         ensures { result ≡ released self }
     {
@@ -336,6 +356,7 @@ impl Combo {
     }
 
     // A PDR access, read or write.
+    #[tactic(auto, unfolding(crate::specs::Port::touched_by))]
     fn touch(mut self) -> Combo
         ensures { result ≡ touched_by self }
     {
@@ -347,6 +368,7 @@ impl Combo {
         self
     }
 
+    #[tactic(auto, unfolding(crate::specs::Registers::after_read))]
     fn after_read(self, register: u16) -> Combo
         ensures { result ≡ after_read register self }
     {
@@ -359,6 +381,7 @@ impl Combo {
         }
     }
 
+    #[tactic(auto, unfolding(crate::specs::Registers::pcr_written))]
     fn write_pcr(mut self, byte: u8) -> Combo
         ensures { result ≡ pcr_written byte self }
     {
@@ -373,6 +396,7 @@ impl Combo {
         self
     }
 
+    #[tactic(auto, unfolding(crate::specs::Port::pdr_written))]
     fn write_pdr(mut self, byte: u8) -> Combo
         ensures { result ≡ pdr_written byte self }
     {
@@ -380,6 +404,7 @@ impl Combo {
         self
     }
 
+    #[tactic(auto, unfolding(crate::specs::Registers::tcr_written))]
     fn write_tcr(mut self, byte: u8) -> Combo
         ensures { result ≡ tcr_written byte self }
     {
@@ -397,6 +422,7 @@ impl Combo {
     }
 
     // W: the MSB buffer goes with the byte.
+    #[tactic(auto, unfolding(crate::specs::Registers::lsb_written))]
     fn write_lsb(mut self, byte: u8) -> Combo
         ensures { result ≡ lsb_written byte self }
     {
@@ -407,6 +433,7 @@ impl Combo {
         self
     }
 
+    #[tactic(auto, unfolding(crate::specs::Registers::stored))]
     fn store(self, register: u16, byte: u8) -> Combo
         ensures { result ≡ stored register byte self }
     {
@@ -421,6 +448,7 @@ impl Combo {
         }
     }
 
+    #[tactic(auto, unfolding(crate::specs::Port::port_cleared))]
     fn clear_port(mut self) -> Combo
         ensures { result ≡ port_cleared self }
     {
@@ -435,6 +463,7 @@ impl Combo {
         self
     }
 
+    #[tactic(auto, unfolding(crate::specs::Port::port_settled))]
     fn settle_port(self) -> Combo
         ensures { result ≡ port_settled self }
     {
@@ -447,6 +476,7 @@ impl Combo {
         self.release()
     }
 
+    #[tactic(auto, unfolding(crate::specs::Registers::timer_settled))]
     fn settle_timer(mut self) -> Combo
         ensures { result ≡ timer_settled self }
     {
@@ -456,6 +486,7 @@ impl Combo {
         self
     }
 
+    #[tactic(auto, unfolding(crate::specs::Registers::after_write))]
     fn after_write(self, register: u16, byte: u8) -> Combo
         ensures { result ≡ after_write register byte self }
     {
@@ -471,6 +502,7 @@ impl Combo {
         }
     }
 
+    #[tactic(auto, unfolding(crate::specs::Cycle::read_by))]
     fn read(self, select: Select, rom: &[u8], access: Access) -> Done
         ensures { result ≡ read_by select rom.now access self }
     {
@@ -486,6 +518,7 @@ impl Combo {
         self.answer(256)
     }
 
+    #[tactic(auto, unfolding(crate::specs::Cycle::written_by))]
     fn write(self, select: Select, access: Access) -> Done
         ensures { result ≡ written_by select access self }
     {
@@ -497,6 +530,7 @@ impl Combo {
         self.answer(256)
     }
 
+    #[tactic(auto, unfolding(crate::specs::Cycle::transferred))]
     fn transfer(self, select: Select, rom: &[u8], access: Access) -> Done
         ensures { result ≡ transferred select rom.now access self }
     {
@@ -506,6 +540,7 @@ impl Combo {
         self.write(select, access)
     }
 
+    #[tactic(auto, unfolding(crate::specs::Cycle::accessed))]
     fn serve(self, select: Select, rom: &[u8], access: Access) -> Done
         ensures { result ≡ accessed select rom.now access self }
     {
@@ -519,6 +554,7 @@ impl Combo {
         self.answer(256)
     }
 
+    #[tactic(auto, unfolding(crate::specs::Port::cp2_out))]
     fn cp2_out(self) -> bool
         ensures { result ≡ cp2_out self }
     {
@@ -532,6 +568,7 @@ impl Combo {
         self.flag1 | self.raised
     }
 
+    #[tactic(auto, unfolding(crate::specs::Cycle::shown))]
     fn show(mut self) -> Combo
         ensures { result ≡ shown self }
     {
@@ -541,6 +578,7 @@ impl Combo {
     }
 
     // One cycle: sample, edges, clocks, the bus, what CP2 shows; in RESET the reset state, from which reads answer.
+    #[tactic(auto, unfolding(crate::specs::Cycle::cycle_of))]
     pub fn cycle(self, select: Select, rom: &[u8], levels: Levels, access: Access) -> Done
         ensures { result ≡ cycle_of select rom.now levels access self }
     {
@@ -556,6 +594,7 @@ impl Combo {
     }
 
     // CTO, the timer's pin.
+    #[tactic(auto, unfolding(crate::specs::Cycle::cto_of))]
     pub fn cto(self) -> bool
         ensures { result ≡ cto_of self }
     {
@@ -564,6 +603,7 @@ impl Combo {
     }
 
     // CP2: the level driven, or as an input the last sampled.
+    #[tactic(auto, unfolding(crate::specs::Port::cp2_of))]
     pub fn cp2_pin(self) -> bool
         ensures { result ≡ cp2_of self }
     {
@@ -574,6 +614,7 @@ impl Combo {
     }
 
     // P0-P7: the levels driven, and those last sampled of the inputs.
+    #[tactic(auto, unfolding(crate::specs::Port::port_of))]
     pub fn port(self) -> u8
         ensures { result ≡ port_of self }
     {
@@ -582,6 +623,7 @@ impl Combo {
     }
 
     // The prescaler stands where it can: 0 to 7.
+    #[tactic(auto, unfolding(crate::specs::Cycle::in_range))]
     pub fn in_range(self) -> bool
         ensures { result ≡ in_range self }
     {
@@ -590,6 +632,7 @@ impl Combo {
     }
 }
 
+#[tactic(auto, unfolding(crate::specs::Cycle::reset_cycle, crate::specs::Cycle::accessed))]
 fn reset_cycle(select: Select, rom: &[u8], levels: Levels, access: Access) -> Done
     ensures { result ≡ reset_cycle select rom.now levels access }
 {

@@ -1,4 +1,6 @@
 // The 6840 in a move: cycle after cycle until all are done or one is refused.
+#![tactic(auto)]
+
 ghost use Rattle.std.specs.Prelude.{◌≡◌};
 ghost use Rattle.outcomes.specs.declared.Outcome.TheVariants.{Done};
 ghost use Rattle.mover6840.specs.Cycle.{world, ran_to, moved, seen, run_of};
@@ -11,7 +13,7 @@ use wire::book::{Ends, heard, left};
 use wire::stamp::{listener_waits, next};
 
 // What stays through a move: the wire, the 6846's stamp and its CTO.
-#[derive(Drop)]
+#[derive(Clone, Copy)]
 pub struct Given6840 {
     pub wire: u8,
     pub wired: bool,
@@ -20,7 +22,7 @@ pub struct Given6840 {
 }
 
 // What the cycles change, answers apart; the levels are the word of the last event.
-#[derive(Drop)]
+#[derive(Clone, Copy)]
 pub struct Run6840 {
     pub chip: Ptm,
     pub levels: u32,
@@ -30,7 +32,7 @@ pub struct Run6840 {
 }
 
 // What a move leaves, and what it came to.
-#[derive(Drop)]
+#[derive(Clone, Copy)]
 pub struct Ran6840 {
     pub run: Run6840,
     pub outcome: Outcome,
@@ -38,6 +40,7 @@ pub struct Ran6840 {
 
 impl Run6840 {
     // The levels of a cycle, with what CTO was after the cycle before.
+    #[tactic(auto, unfolding(crate::specs::Cycle::seen))]
     fn see(self, given: Given6840, places: &[u32; 64], levels: u32) -> Levels
         ensures { result ≡ seen given places.now self levels }
     {
@@ -45,6 +48,7 @@ impl Run6840 {
         levels_of(levels).wired(given.wire, level)
     }
 
+    #[tactic(auto, unfolding(crate::specs::Cycle::moved))]
     fn go_on(self, chip: Ptm, levels: u32, done: usize, ends: Ends) -> Run6840
         ensures { result ≡ moved chip levels done ends self }
     {
@@ -88,7 +92,8 @@ pub fn run_6840(
         else {
             return state.end(Outcome::BadEvent);
         };
-        if listener_waits(state.stamp, given.other, given.wired) {
+        let waits = listener_waits(state.stamp, given.other, given.wired);
+        if waits {
             return state.end(Outcome::MustWait);
         }
         let after = state

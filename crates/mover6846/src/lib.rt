@@ -1,4 +1,6 @@
 // The 6846 in a move: cycle after cycle until all are done or one is refused.
+#![tactic(auto)]
+
 ghost use Rattle.std.specs.Prelude.{◌≡◌};
 ghost use Rattle.outcomes.specs.declared.Outcome.TheVariants.{Done};
 ghost use Rattle.mover6846.specs.Cycle.{world, ran_to, moved, changes, noted_if, run_of};
@@ -12,7 +14,7 @@ use wire::book::{Ends, noted};
 use wire::stamp::{driver_waits, next};
 
 // What stays through a move: the select options, whether there is a wire, the 6840's stamp.
-#[derive(Drop)]
+#[derive(Clone, Copy)]
 pub struct Given6846 {
     pub select: Select,
     pub wired: bool,
@@ -20,7 +22,7 @@ pub struct Given6846 {
 }
 
 // What the cycles change, answers and the book's places apart; the levels are the word of the last event.
-#[derive(Drop)]
+#[derive(Clone, Copy)]
 pub struct Run6846 {
     pub chip: Combo,
     pub levels: u32,
@@ -30,12 +32,13 @@ pub struct Run6846 {
 }
 
 // What a move leaves, and what it came to.
-#[derive(Drop)]
+#[derive(Clone, Copy)]
 pub struct Ran6846 {
     pub run: Run6846,
     pub outcome: Outcome,
 }
 
+#[tactic(auto, unfolding(crate::specs::Cycle::changes))]
 fn changes_cto(given: Given6846, before: Combo, after: Combo) -> bool
     ensures { result ≡ changes given before after }
 {
@@ -46,6 +49,7 @@ fn changes_cto(given: Given6846, before: Combo, after: Combo) -> bool
 }
 
 // A change of CTO goes into the book.
+#[tactic(auto, unfolding(crate::specs::Cycle::noted_if))]
 fn note(places: &mut [u32; 64], ends: Ends, changed: bool, stamp: u32) -> Ends
     ensures { book_of places.new result ≡ noted_if changed places.old ends stamp }
 {
@@ -56,6 +60,7 @@ fn note(places: &mut [u32; 64], ends: Ends, changed: bool, stamp: u32) -> Ends
 }
 
 impl Run6846 {
+    #[tactic(auto, unfolding(crate::specs::Cycle::moved))]
     fn go_on(self, chip: Combo, levels: u32, done: usize, ends: Ends) -> Run6846
         ensures { result ≡ moved chip levels done ends self }
     {
@@ -100,7 +105,8 @@ pub fn run_6846(
         else {
             return state.end(Outcome::BadEvent);
         };
-        if driver_waits(given.other, state.stamp) {
+        let waits = driver_waits(given.other, state.stamp);
+        if waits {
             return state.end(Outcome::MustWait);
         }
         let after = state

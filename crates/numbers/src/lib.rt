@@ -1,8 +1,10 @@
 // Numbers: decimal, or hex after `0x`.
+#![tactic(auto)]
+
 ghost use Rattle.std.specs.Prelude.{◌≡◌, ◌≤◌, drop};
 ghost use Rattle.numbers.specs.Numbers.{digit_of, digits_of, hexed, number_of, good_in, value_in};
 
-#[derive(Drop)]
+#[derive(Clone, Copy)]
 pub enum Number {
     Value(u32),
     Bad,
@@ -29,6 +31,7 @@ impl Number {
 }
 
 // The value of a digit of either case; 16 where the byte is none.
+#[tactic(auto, unfolding(crate::specs::Numbers::digit_of))]
 fn digit(byte: u8) -> u64
     ensures { result ≡ digit_of byte }
 {
@@ -53,6 +56,9 @@ fn digit(byte: u8) -> u64
     16
 }
 
+// The largest number of 32 bits.
+const LARGEST: u64 = 4294967295;
+
 // The digits of a base from a place on.
 fn digits(text: &[u8], base: u64, at: usize) -> Number
     requires { base ≤ 16 }
@@ -66,7 +72,7 @@ fn digits(text: &[u8], base: u64, at: usize) -> Number
             return Number::Bad;
         }
         let next = value * base + d;
-        if 4294967295 < next {
+        if LARGEST < next {
             return Number::Bad;
         }
         value = next;
@@ -76,6 +82,7 @@ fn digits(text: &[u8], base: u64, at: usize) -> Number
 }
 
 // Whether a text has the prefix `0x`.
+#[tactic(auto, unfolding(crate::specs::Numbers::hexed))]
 fn is_hex(text: &[u8]) -> bool
     ensures { result ≡ hexed text.now }
 {
@@ -86,6 +93,7 @@ fn is_hex(text: &[u8]) -> bool
 }
 
 // The number that a word says.
+#[tactic(auto, unfolding(crate::specs::Numbers::number_of))]
 pub fn read(text: &[u8]) -> Number
     ensures { result ≡ number_of text.now }
 {

@@ -1,9 +1,11 @@
 // What a call comes to, and the number that document 01 gives it.
+#![tactic(auto)]
+
 ghost use Rattle.std.specs.Prelude.{◌≡◌};
 ghost use Rattle.outcomes.specs.Numbers.{number_of, start_number, report_number};
 
 // What a move comes to.
-#[derive(Drop)]
+#[derive(Clone, Copy)]
 pub enum Outcome {
     Done,
     BadRom,
@@ -16,14 +18,14 @@ pub enum Outcome {
 }
 
 // What a start comes to.
-#[derive(Drop)]
+#[derive(Clone, Copy)]
 pub enum Begin {
     Fresh,
     BadOption,
 }
 
 // What a report comes to.
-#[derive(Drop)]
+#[derive(Clone, Copy)]
 pub enum Seen {
     Levels,
     Apart,
@@ -31,6 +33,7 @@ pub enum Seen {
 }
 
 impl Outcome {
+    #[tactic(auto, unfolding(crate::specs::Numbers::number_of))]
     pub fn number(self) -> u32
         ensures { result ≡ number_of self }
     {
@@ -48,6 +51,7 @@ impl Outcome {
 }
 
 impl Begin {
+    #[tactic(auto, unfolding(crate::specs::Numbers::start_number))]
     pub fn number(self) -> u32
         ensures { result ≡ start_number self }
     {
@@ -59,6 +63,7 @@ impl Begin {
 }
 
 impl Seen {
+    #[tactic(auto, unfolding(crate::specs::Numbers::report_number))]
     pub fn number(self) -> u32
         ensures { result ≡ report_number self }
     {

@@ -1,5 +1,4 @@
--- The command that a line says, or what is wrong with it: `UnknownWord` and `BadNumber` say which word is (the first is word 0),
--- `WrongCount` how many words the command takes after its own.
+-- The command that a line says.
 use Rattle.std.specs.Prelude.{ℕ, ◌+◌, Bool, not, cond, ◌&&◌, List, [], ◌∷◌}
 use Rattle.runfile.specs.declared.Chip.{Chip}
 use Rattle.runfile.specs.declared.Chip.TheVariants.{Mc6846, Mc6840}
@@ -69,52 +68,46 @@ counted line n = filled_at line n && not (filled_at line (n + 1))
 unfoldable pub all_good : Number → Number → Number → Bool
 all_good a b c = good_in a && good_in b && good_in c
 
--- three numbers stand from word n on and not all are good: the word of the first that is bad
-unfoldable pub first_bad : Number → Number → ℕ → ℕ
-first_bad a b n = cond (good_in a) (cond (good_in b) (n + 2) (n + 1)) n
-
 unfoldable pub start_with : Number → Number → Number → Number → Number → Number → Command
 start_with a b c d e f =
-    cond (all_good a b c)
-    (cond (all_good d e f) (command.Start (value_in a) (value_in b) (value_in c) (value_in d) (value_in e) (value_in f))
-    (command.BadNumber (first_bad d e 4)))
-    (command.BadNumber (first_bad a b 1))
+    cond (all_good a b c && all_good d e f)
+    (command.Start (value_in a) (value_in b) (value_in c) (value_in d) (value_in e) (value_in f)) command.BadNumber
 
 -- `start ROM IO A6 EXTRA WIRE STAMP`
 unfoldable pub start_of : List ℕ → Command
 start_of line =
     cond (counted line 6)
     (start_with (number_at line 1) (number_at line 2) (number_at line 3) (number_at line 4) (number_at line 5) (number_at line 6))
-    (command.WrongCount 6)
+    command.WrongCount
 
 -- `rom PATH`
 unfoldable pub rom_of : List ℕ → Command
-rom_of line = cond (counted line 1) command.Rom (command.WrongCount 1)
+rom_of line = cond (counted line 1) command.Rom command.WrongCount
 
 unfoldable pub event_with : Chip → Number → Number → Number → Command
 event_with chip a b c =
-    cond (all_good a b c) (command.Event chip (value_in a) (value_in b) (value_in c)) (command.BadNumber (first_bad a b 1))
+    cond (all_good a b c) (command.Event chip (value_in a) (value_in b) (value_in c)) command.BadNumber
 
 -- `6846 STAMP LEVELS ACCESS`, `6840 STAMP LEVELS ACCESS`
 unfoldable pub event_of : List ℕ → Chip → Command
 event_of line chip =
-    cond (counted line 3) (event_with chip (number_at line 1) (number_at line 2) (number_at line 3)) (command.WrongCount 3)
+    cond (counted line 3) (event_with chip (number_at line 1) (number_at line 2) (number_at line 3)) command.WrongCount
 
 unfoldable pub move_by : Chip → Number → Command
 move_by chip (Value n) = command.Move chip n
-move_by chip Bad = command.BadNumber 2
+move_by chip Bad = command.BadNumber
 
 unfoldable pub move_with : Which → Number → Command
 move_with (Of chip) n = move_by chip n
-move_with Neither n = command.UnknownWord 1
+move_with Neither n = command.UnknownWord
 
 -- `move 6846 CYCLES`, `move 6840 CYCLES`
 unfoldable pub move_of : List ℕ → Command
-move_of line = cond (counted line 2) (move_with (chip_of (text_of line 1)) (number_at line 2)) (command.WrongCount 2)
+move_of line = cond (counted line 2) (move_with (chip_of (text_of line 1)) (number_at line 2)) command.WrongCount
 
 -- `report`, `stamps`, `answers` stand alone
 unfoldable pub alone : List ℕ → Command → Command
-alone line c = cond (counted line 0) c (command.WrongCount 0)
+alone line c = cond (counted line 0) c command.WrongCount
 
 unfoldable pub called : List ℕ → Name → Command
 called line name.Start = start_of line
@@ -123,7 +116,7 @@ called line name.Move = move_of line
 called line name.Report = alone line command.Report
 called line name.Stamps = alone line command.Stamps
 called line name.Answers = alone line command.Answers
-called line name.Unknown = command.UnknownWord 0
+called line name.Unknown = command.UnknownWord
 
 unfoldable pub begun : List ℕ → Which → Command
 begun line (Of chip) = event_of line chip

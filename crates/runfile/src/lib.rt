@@ -1,25 +1,27 @@
 // The commands of a run file: what a line of it says.
+#![tactic(auto)]
+
 ghost use Rattle.std.specs.Prelude.{◌≡◌, ◌<◌};
-ghost use Rattle.runfile.specs.Commands.{chip_of, name_of, number_at, counted, all_good, first_bad, start_with, start_of, rom_of, event_with, event_of, move_with, move_of, alone, called, begun, command_of};
+ghost use Rattle.runfile.specs.Commands.{chip_of, name_of, number_at, counted, all_good, start_with, start_of, rom_of, event_with, event_of, move_with, move_of, alone, called, begun, command_of};
 
 use numbers::{Number, read};
 use words::{filled, same, text};
 
-#[derive(Drop)]
+#[derive(Clone, Copy)]
 pub enum Chip {
     Mc6846,
     Mc6840,
 }
 
 // The chip that a word names.
-#[derive(Drop)]
+#[derive(Clone, Copy)]
 pub enum Which {
     Of(Chip),
     Neither,
 }
 
 // What another word names.
-#[derive(Drop)]
+#[derive(Clone, Copy)]
 pub enum Name {
     Start,
     Rom,
@@ -30,7 +32,7 @@ pub enum Name {
     Unknown,
 }
 
-#[derive(Drop)]
+#[derive(Clone, Copy)]
 pub enum Command {
     Empty,
     Start {
@@ -56,14 +58,12 @@ pub enum Command {
     Report,
     Stamps,
     Answers,
-    // Which word it is; the first is word 0.
-    UnknownWord(usize),
-    // How many words the command takes after its own.
-    WrongCount(u32),
-    // Which word it is.
-    BadNumber(usize),
+    UnknownWord,
+    WrongCount,
+    BadNumber,
 }
 
+#[tactic(auto, unfolding(crate::specs::Commands::chip_of))]
 fn part(word: &[u8]) -> Which
     ensures { result ≡ chip_of word.now }
 {
@@ -76,6 +76,7 @@ fn part(word: &[u8]) -> Which
     Which::Neither
 }
 
+#[tactic(auto, unfolding(crate::specs::Commands::name_of))]
 fn meaning(word: &[u8]) -> Name
     ensures { result ≡ name_of word.now }
 {
@@ -115,45 +116,31 @@ fn is_last(line: &[u8], n: usize) -> bool
     filled(line, n) & !filled(line, n + 1)
 }
 
+#[tactic(auto, unfolding(crate::specs::Commands::all_good))]
 fn are_good(a: Number, b: Number, c: Number) -> bool
     ensures { result ≡ all_good a b c }
 {
     a.is_good() & b.is_good() & c.is_good()
 }
 
-// The word of the first bad one of three numbers that stand from word `n` on and are not all good.
-fn first_bad(a: Number, b: Number, n: usize) -> usize
-    requires { n < 7 }
-    ensures { result ≡ first_bad a b n }
-{
-    if a.is_good() {
-        if b.is_good() {
-            return n + 2;
-        }
-        return n + 1;
-    }
-    n
-}
-
+#[tactic(auto, unfolding(crate::specs::Commands::start_with))]
 fn start_with(a: Number, b: Number, c: Number, d: Number, e: Number, f: Number) -> Command
     ensures { result ≡ start_with a b c d e f }
 {
-    if are_good(a, b, c) {
-        if are_good(d, e, f) {
-            return Command::Start {
-                rom: a.value(),
-                io: b.value(),
-                a6: c.value(),
-                extra: d.value(),
-                wire: e.value(),
-                stamp: f.value(),
-            };
-        }
-        return Command::BadNumber(first_bad(d, e, 4));
+    if are_good(a, b, c) & are_good(d, e, f) {
+        return Command::Start {
+            rom: a.value(),
+            io: b.value(),
+            a6: c.value(),
+            extra: d.value(),
+            wire: e.value(),
+            stamp: f.value(),
+        };
     }
-    Command::BadNumber(first_bad(a, b, 1))
+    Command::BadNumber
 }
 
+#[tactic(auto, unfolding(crate::specs::Commands::start_of))]
 fn start(line: &[u8]) -> Command
     ensures { result ≡ start_of line.now }
 {
@@ -167,18 +154,20 @@ fn start(line: &[u8]) -> Command
             number_at(line, 6),
         );
     }
-    Command::WrongCount(6)
+    Command::WrongCount
 }
 
+#[tactic(auto, unfolding(crate::specs::Commands::rom_of))]
 fn rom(line: &[u8]) -> Command
     ensures { result ≡ rom_of line.now }
 {
     if is_last(line, 1) {
         return Command::Rom;
     }
-    Command::WrongCount(1)
+    Command::WrongCount
 }
 
+#[tactic(auto, unfolding(crate::specs::Commands::event_with))]
 fn event_with(chip: Chip, a: Number, b: Number, c: Number) -> Command
     ensures { result ≡ event_with chip a b c }
 {
@@ -190,9 +179,10 @@ fn event_with(chip: Chip, a: Number, b: Number, c: Number) -> Command
             access: c.value(),
         };
     }
-    Command::BadNumber(first_bad(a, b, 1))
+    Command::BadNumber
 }
 
+#[tactic(auto, unfolding(crate::specs::Commands::event_of))]
 fn event(line: &[u8], chip: Chip) -> Command
     ensures { result ≡ event_of line.now chip }
 {
@@ -204,17 +194,18 @@ fn event(line: &[u8], chip: Chip) -> Command
             number_at(line, 3),
         );
     }
-    Command::WrongCount(3)
+    Command::WrongCount
 }
 
+#[tactic(auto, unfolding(crate::specs::Commands::move_with, crate::specs::Commands::move_by))]
 fn move_with(which: Which, cycles: Number) -> Command
     ensures { result ≡ move_with which cycles }
 {
     let Which::Of(chip) = which else {
-        return Command::UnknownWord(1);
+        return Command::UnknownWord;
     };
     let Number::Value(n) = cycles else {
-        return Command::BadNumber(2);
+        return Command::BadNumber;
     };
     Command::Move {
         chip: chip,
@@ -222,25 +213,28 @@ fn move_with(which: Which, cycles: Number) -> Command
     }
 }
 
+#[tactic(auto, unfolding(crate::specs::Commands::move_of))]
 fn movement(line: &[u8]) -> Command
     ensures { result ≡ move_of line.now }
 {
     if is_last(line, 2) {
         return move_with(part(text(line, 1)), number_at(line, 2));
     }
-    Command::WrongCount(2)
+    Command::WrongCount
 }
 
 // A command of one word.
+#[tactic(auto, unfolding(crate::specs::Commands::alone))]
 fn only(line: &[u8], command: Command) -> Command
     ensures { result ≡ alone line.now command }
 {
     if is_last(line, 0) {
         return command;
     }
-    Command::WrongCount(0)
+    Command::WrongCount
 }
 
+#[tactic(auto, unfolding(crate::specs::Commands::called))]
 fn by_name(line: &[u8], name: Name) -> Command
     ensures { result ≡ called line.now name }
 {
@@ -251,10 +245,11 @@ fn by_name(line: &[u8], name: Name) -> Command
         Name::Report => only(line, Command::Report),
         Name::Stamps => only(line, Command::Stamps),
         Name::Answers => only(line, Command::Answers),
-        Name::Unknown => Command::UnknownWord(0),
+        Name::Unknown => Command::UnknownWord,
     }
 }
 
+#[tactic(auto, unfolding(crate::specs::Commands::begun))]
 fn by_first(line: &[u8], which: Which) -> Command
     ensures { result ≡ begun line.now which }
 {
@@ -265,6 +260,7 @@ fn by_first(line: &[u8], which: Which) -> Command
 }
 
 // The command that a line says, or what is wrong with it.
+#[tactic(auto, unfolding(crate::specs::Commands::command_of))]
 pub fn decode(line: &[u8]) -> Command
     ensures { result ≡ command_of line.now }
 {

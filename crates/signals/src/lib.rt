@@ -1,4 +1,6 @@
 // The levels and accesses of an event's words, taken apart bit by bit as document 01 names them, a module a chip.
+#![tactic(auto)]
+
 ghost use Rattle.std.specs.Prelude.{◌≡◌};
 ghost use Rattle.timer.specs.Fields.{bit};
 ghost use Rattle.signals.specs.Words.{read_with_data, absent_with_bits};

@@ -8,7 +8,7 @@ use crate::{absent_with_bits, lowest_bit, reads_with_data};
 pub const ALL_HIGH: u32 = 127;
 
 // The levels of the input pins.
-#[derive(Drop)]
+#[derive(Clone, Copy)]
 pub struct Levels {
     pub c1: bool,
     pub c2: bool,
@@ -20,7 +20,7 @@ pub struct Levels {
 }
 
 // What the bus asks: the register is RS0 + 2 RS1 + 4 RS2.
-#[derive(Drop)]
+#[derive(Clone, Copy)]
 pub struct Access {
     pub present: bool,
     pub read: bool,
@@ -28,6 +28,7 @@ pub struct Access {
     pub byte: u8,
 }
 
+#[tactic(auto, unfolding(crate::specs::Words6840::levels_of))]
 pub fn levels_of(word: u32) -> Levels
     ensures { result ≡ levels_of word }
 {
@@ -42,6 +43,7 @@ pub fn levels_of(word: u32) -> Levels
     }
 }
 
+#[tactic(auto, unfolding(crate::specs::Words6840::access_of))]
 pub fn access_of(word: u32) -> Access
     ensures { result ≡ access_of word }
 {
@@ -60,6 +62,7 @@ fn has_unnamed(levels: u32, access: u32) -> bool
 }
 
 // An event that a chip stops at, whatever its stamp.
+#[tactic(auto, unfolding(crate::specs::Words6840::bad_event))]
 pub fn is_bad(levels: u32, access: u32) -> bool
     ensures { result ≡ bad_event levels access }
 {
@@ -68,6 +71,7 @@ pub fn is_bad(levels: u32, access: u32) -> bool
 
 impl Levels {
     // The wire's level on the input that it goes to.
+    #[tactic(auto, unfolding(crate::specs::Words6840::wired_of))]
     pub fn wired(mut self, wire: u8, level: bool) -> Levels
         ensures { result ≡ wired_of wire level self }
     {

@@ -8,7 +8,7 @@ use crate::{absent_with_bits, lowest_bit, reads_with_data};
 pub const ALL_HIGH: u32 = 8191;
 
 // The levels recognised in a cycle: P, CP1, CP2, CTG, CTC, RESET.
-#[derive(Drop)]
+#[derive(Clone, Copy)]
 pub struct Levels {
     pub pins: u8,
     pub cp1: bool,
@@ -19,7 +19,7 @@ pub struct Levels {
 }
 
 // What the bus asks in a cycle; the code is CS0 + 2 x CS1, the address A0-A10.
-#[derive(Drop)]
+#[derive(Clone, Copy)]
 pub struct Access {
     pub present: bool,
     pub read: bool,
@@ -28,6 +28,7 @@ pub struct Access {
     pub byte: u8,
 }
 
+#[tactic(auto, unfolding(crate::specs::Words6846::levels_of))]
 pub fn levels_of(word: u32) -> Levels
     ensures { result ≡ levels_of word }
 {
@@ -41,6 +42,7 @@ pub fn levels_of(word: u32) -> Levels
     }
 }
 
+#[tactic(auto, unfolding(crate::specs::Words6846::access_of))]
 pub fn access_of(word: u32) -> Access
     ensures { result ≡ access_of word }
 {
@@ -60,6 +62,7 @@ fn has_unnamed(levels: u32, access: u32) -> bool
 }
 
 // An event that a chip stops at, whatever its stamp.
+#[tactic(auto, unfolding(crate::specs::Words6846::bad_event))]
 pub fn is_bad(levels: u32, access: u32) -> bool
     ensures { result ≡ bad_event levels access }
 {

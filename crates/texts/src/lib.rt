@@ -1,9 +1,11 @@
 // The text of an answer.
+#![tactic(auto)]
+
 ghost use Rattle.std.specs.Prelude.{◌≡◌, ◌≤◌, length, drop};
 ghost use Rattle.texts.specs.Texts.{decimal_of, sign, levels_text};
 
 // The text of a number: the bytes from a place to the end.
-#[derive(Drop)]
+#[derive(Clone, Copy)]
 pub struct Digits {
     pub bytes: [u8; 10],
     pub from: usize,

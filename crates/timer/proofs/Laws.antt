@@ -1,16 +1,16 @@
 -- What the chips cite of a timer, so that none of them unfolds a rule.
 use Prim.Native.Nat.{ℕ, ◌+◌, ◌/◌, ◌%◌}
-use mathlib.Core.Path.{◌≡◌, refl, ap, sym, ◌∙◌}
+use mathlib.Core.Path.{◌≡◌, refl, ap, ◌∙◌}
 use mathlib.Core.Bool.{Bool, true, false, not, cond, ◌&&◌}
 use native.Mathlib.Omega.{arith}
 use lib.Dec.{eqb, leb}
-use borrow.Author.Tests.{le-leb, eqb-true, eq-eqb}
+use borrow.Author.Tests.{le-leb}
 use Rattle.timer.specs.declared.Timer.{Timer}
 use Rattle.timer.specs.declared.Setting.{Setting}
 use Rattle.timer.specs.declared.Mode.{Mode}
 use Rattle.timer.specs.declared.Mode.TheVariants.{Continuous, SingleShot, Cascaded, Interval}
-use Rattle.timer.specs.Fields.{bit, with_control, with_divider, with_level, with_running, with_marks, with_inputs}
-use Rattle.timer.specs.Rules.{ticks, divider_after, mode_of, initialised, held, settled, written, latch_written, started, caught, fell, rose, falls, rises, early, gated, times_out, enabled, level_after, timed_out, counted_down, lowered, edged, reaches, free_cycle, cycle_of, control_written, armed_by, msb_read, reset_state, fits}
+use Rattle.timer.specs.Fields.{bit, with_divider, with_inputs}
+use Rattle.timer.specs.Rules.{ticks, divider_after, mode_of, initialised, held, settled, written, latch_written, started, caught, fell, rose, falls, rises, early, gated, times_out, enabled, timed_out, counted_down, edged, reaches, free_cycle, cycle_of, control_written, armed_by, msb_read, reset_state, fits}
 
 -- the fields that no gate, count or time-out touches: latch, control, divider and the sampled inputs
 pub record Kept : Type 0 where
@@ -57,13 +57,6 @@ counted_keeps : (s : Setting) (m : Mode) (t : Timer) → kept (counted_down s m 
 unfolding counted_down
 counted_keeps s m t = either (times_out t) _ _ _ (timed-out_keeps m _) refl
 
-lowered_keeps : (m : Mode) (t : Timer) → kept (lowered m t) ≡ kept t
-unfolding lowered
-lowered_keeps Continuous t = refl
-lowered_keeps SingleShot t = refl
-lowered_keeps Cascaded t = refl
-lowered_keeps (Interval p g) t = refl
-
 -- what a cycle leaves of them
 abbrev pub after : Setting → Bool → Bool → Timer → ℕ → Kept
 after s gate clock t d = record { latch = t.latch; control = t.control; divider = d; gate = gate; clock = clock }
@@ -73,7 +66,7 @@ edged_keeps : (s : Setting) (m : Mode) (gate clock : Bool) (t : Timer) →
 unfolding edged
 edged_keeps s m gate clock t =
     ap (λ (k : Kept). record { latch = k.latch; control = k.control; divider = divider_after s (ticks clock t) t.divider; gate = gate; clock = clock })
-    (lowered_keeps m _ ∙ gated_keeps m gate t)
+    (gated_keeps m gate t)
 
 free_keeps : (s : Setting) (m : Mode) (gate clock : Bool) (t : Timer) →
     kept (free_cycle s m gate clock t) ≡ after s gate clock t (divider_after s (ticks clock t) t.divider)
@@ -157,116 +150,12 @@ pub held-write : (s : Setting) (t : Timer) → s.held ≡ true → settled s t �
 unfolding settled
 held-write s t p = rw p
 
--- A cycle without clock and edge leaves all alone but the inputs, a divider that is off stands at 0, and an interval's level is low.
+-- A cycle without clock and edge leaves all alone but the inputs, and a divider that is off stands at 0.
 pub quiet-cycle : (s : Setting) (clock : Bool) (t : Timer) → s.held ≡ false → ticks clock t ≡ false →
-    cycle_of s t.gate clock t ≡ with_inputs t.gate clock (with_divider (cond s.divided t.divider 0) (lowered (mode_of s t.control) t))
+    cycle_of s t.gate clock t ≡ with_inputs t.gate clock (with_divider (cond s.divided t.divider 0) t)
 unfolding cycle_of free_cycle edged reaches gated divider_after
 quiet-cycle s clock t p q = by t.gate refl
   where
-    by : (g : Bool) → t.gate ≡ g → cycle_of s t.gate clock t ≡ with_inputs t.gate clock (with_divider (cond s.divided t.divider 0) (lowered (mode_of s t.control) t))
+    by : (g : Bool) → t.gate ≡ g → cycle_of s t.gate clock t ≡ with_inputs t.gate clock (with_divider (cond s.divided t.divider 0) t)
     by true e = simp (p, q, e)
     by false e = simp (p, q, e)
-
--- Intervals: low.
-abbrev pub Low : Timer → Type 0
-Low t = bit 3 t.control ≡ true → t.level ≡ false
-
-either_low : (b : Bool) (x y : Timer) → x.level ≡ false → y.level ≡ false → (cond b x y).level ≡ false
-either_low true x y p q = p
-either_low false x y p q = q
-
-both_low : (b : Bool) (x y : Timer) → Low x → Low y → Low (cond b x y)
-both_low true x y p q = p
-both_low false x y p q = q
-
-free_low : (s : Setting) (p g gate clock : Bool) (t : Timer) → (free_cycle s (Interval p g) gate clock t).level ≡ false
-unfolding free_cycle edged lowered counted_down level_after timed_out caught
-free_low s p g gate clock t =
-    either_low (reaches s (Interval p g) gate clock t && enabled (Interval p g) gate (edged s (Interval p g) gate clock t)) _ _
-    (either_low (times_out (edged s (Interval p g) gate clock t)) _ _ (either_low g _ _ refl refl) refl)
-    refl
-
-interval_of : (s : Setting) (k : ℕ) → bit 3 k ≡ true → mode_of s k ≡ Interval (bit 4 k) (bit 5 k)
-unfolding mode_of
-interval_of s k e = rw e
-
--- After every cycle the level of an interval is low, whatever it was.
-pub cycle_low : (s : Setting) (gate clock : Bool) (t : Timer) → Low (cycle_of s gate clock t)
-unfolding cycle_of held initialised
-cycle_low s gate clock t e = by s.held
-  where
-    m : mode_of s t.control ≡ Interval (bit 4 t.control) (bit 5 t.control)
-    m = interval_of s t.control (ap (bit 3) (sym (cycle-control s gate clock t)) ∙ e)
-
-    by : (b : Bool) → (cond b (with_inputs gate clock (held t)) (free_cycle s (mode_of s t.control) gate clock t)).level ≡ false
-    by true = refl
-    by false = rw m (free_low s _ _ gate clock t)
-
--- and no access raises it
-pub settled_low : (s : Setting) (t : Timer) → Low t → Low (settled s t)
-unfolding settled held initialised
-settled_low s t p = both_low s.held _ _ (λ e. refl) (both_low s.divided _ _ p p)
-
-written_low : (m : Mode) (t : Timer) → Low t → Low (written m t)
-unfolding written initialised
-written_low Continuous t p = both_low (bit 4 t.control) _ _ p (λ e. refl)
-written_low SingleShot t p = both_low (bit 4 t.control) _ _ p (λ e. refl)
-written_low Cascaded t p = p
-written_low (Interval u g) t p = p
-
-pub latch_low : (s : Setting) (v : ℕ) (t : Timer) → Low t → Low (latch_written s v t)
-unfolding latch_written
-latch_low s v t p = written_low _ _ p
-
-pub control_low : (v : ℕ) (t : Timer) → Low t → Low (control_written v t)
-unfolding control_written
-control_low v t p = by (eqb (v / 8 % 8) (t.control / 8 % 8)) refl
-  where
-    by : (b : Bool) → eqb (v / 8 % 8) (t.control / 8 % 8) ≡ b → Low (cond b (with_control v t) (with_running false (with_level false (with_marks false false (with_control v t)))))
-    by true e f = p (eq-eqb (t.control / 8 % 2) 1 (omega (arith, eqb-true (v / 8 % 8) (t.control / 8 % 8) e, eqb-true (v / 8 % 2) 1 f)))
-    by false e f = refl
-
-pub armed_low : (t : Timer) → Low t → Low (armed_by t)
-armed_low t p = p
-
-pub msb_low : (t : Timer) → Low t → Low (msb_read t)
-unfolding msb_read
-msb_low t p = both_low t.armed _ _ p p
-
-pub reset_low : (k : ℕ) (gate clock : Bool) → Low (reset_state k gate clock)
-reset_low k gate clock e = refl
-
--- A property of a timer that the reset state has and every operation keeps.
-pub record Stable (P : Timer → Type 0) : Type 0 where
-  pub cycle : (s : Setting) (gate clock : Bool) (t : Timer) → P t → P (cycle_of s gate clock t)
-  pub settle : (s : Setting) (t : Timer) → P t → P (settled s t)
-  pub latch : (s : Setting) (v : ℕ) (t : Timer) → P t → P (latch_written s v t)
-  pub control : (v : ℕ) (t : Timer) → P t → P (control_written v t)
-  pub arm : (t : Timer) → P t → P (armed_by t)
-  pub msb : (t : Timer) → P t → P (msb_read t)
-  pub reset : (k : ℕ) (gate clock : Bool) → P (reset_state k gate clock)
-
-abbrev pub Fits : Timer → Type 0
-Fits t = fits t ≡ true
-
-pub fits_stable : Stable Fits
-fits_stable = record {
-  cycle = cycle_fits;
-  settle = settled_fits;
-  latch = latch_fits;
-  control = control_fits;
-  arm = armed_fits;
-  msb = msb_fits;
-  reset = reset_fits;
-}
-
-pub low_stable : Stable Low
-low_stable = record {
-  cycle = λ s gate clock t p. cycle_low s gate clock t;
-  settle = settled_low;
-  latch = latch_low;
-  control = control_low;
-  arm = armed_low;
-  msb = msb_low;
-  reset = reset_low;
-}

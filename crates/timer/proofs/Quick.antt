@@ -7,14 +7,14 @@ use borrow.Author.Tests.{eqb-true, not-true}
 use Rattle.timer.specs.declared.Timer.{Timer}
 use Rattle.timer.specs.declared.Setting.{Setting}
 use Rattle.timer.specs.Fields.{bit}
-use Rattle.timer.specs.Rules.{divider_after, mode_of, fallen, enabled, level_after, timed_out, counted_down, lowered, gated, edged, reaches, free_cycle, cycle_of}
+use Rattle.timer.specs.Rules.{divider_after, mode_of, fallen, enabled, level_after, timed_out, counted_down, gated, edged, reaches, free_cycle, cycle_of}
 use Rattle.timer.specs.Quick.{plain, plain_clock, plain_cycle}
 
 -- each test by itself, and whether the clock finds zero
 by_tests : (s : Setting) (gate clock : Bool) (t : Timer) (out : Bool) →
     s.held ≡ false → s.divided ≡ false → s.dual ≡ false → bit 3 t.control ≡ false → bit 5 t.control ≡ false → t.gate ≡ gate →
     eqb t.counter 0 ≡ out → cycle_of s gate clock t ≡ plain_cycle gate clock t
-unfolding plain_clock plain_cycle cycle_of free_cycle mode_of edged lowered gated divider_after reaches enabled counted_down level_after fallen timed_out
+unfolding plain_clock plain_cycle cycle_of free_cycle mode_of edged gated divider_after reaches enabled counted_down level_after fallen timed_out
 by_tests s gate clock t true h d u b3 b5 g z = simp (h, d, u, b3, b5, g, z, and-true, and-not_self, not-and_self)
 by_tests s gate clock t false h d u b3 b5 g z = simp (h, d, u, b3, b5, g, z, and-true, and-not_self, not-and_self)
 

@@ -175,16 +175,9 @@ counted_down s m t =
     let u = with_marks true t.lapsed (with_level (level_after m s t) (with_counter (fallen s.dual t.latch t.counter) t)) in
     cond (times_out t) (timed_out m u) u
 
--- Intervals: low, in every cycle.
-unfoldable pub lowered : Mode → Timer → Timer
-lowered Continuous t = t
-lowered SingleShot t = t
-lowered Cascaded t = t
-lowered (Interval pulse greater) t = with_level false t
-
 -- Gate edges, and the divider's clock.
 unfoldable pub edged : Setting → Mode → Bool → Bool → Timer → Timer
-edged s m gate clock t = with_inputs gate clock (with_divider (divider_after s (ticks clock t) t.divider) (lowered m (gated m gate t)))
+edged s m gate clock t = with_inputs gate clock (with_divider (divider_after s (ticks clock t) t.divider) (gated m gate t))
 
 -- The clock that passes the divider reaches the counter, unless a gate has just initialised it.
 unfoldable pub reaches : Setting → Mode → Bool → Bool → Timer → Bool

@@ -1,12 +1,14 @@
 // One programmable timer, as the MC6846 has one and the MC6840 three.
+#![tactic(auto)]
+
 ghost use Rattle.std.specs.Prelude.{◌≡◌, ◌&&◌, not, true, false};
 ghost use Rattle.timer.specs.Fields.{msb, lsb, with_divider, with_flag, with_level, with_running, with_marks, with_inputs};
 ghost use Rattle.timer.specs.Quick.{plain, plain_clock, plain_cycle};
-ghost use Rattle.timer.specs.Rules.{mode_of, ticks, divider_after, passes, held, settled, initialised, started, caught, early, written, latch_written, fell, loads, rose, gated, enabled, fallen, shaped, last_row, level_after, timed_out, counted_down, lowered, edged, reaches, free_cycle, cycle_of, pin_of, control_written, armed_by, msb_read, asks, reset_state, fits};
+ghost use Rattle.timer.specs.Rules.{mode_of, ticks, divider_after, passes, held, settled, initialised, started, caught, early, written, latch_written, fell, loads, rose, gated, enabled, fallen, shaped, last_row, level_after, timed_out, counted_down, edged, reaches, free_cycle, cycle_of, pin_of, control_written, armed_by, msb_read, asks, reset_state, fits};
 
 // What a timer keeps from cycle to cycle.
 #[repr(C)]
-#[derive(Drop)]
+#[derive(Clone, Copy)]
 pub struct Timer {
     pub latch: u16,
     pub counter: u16,
@@ -25,7 +27,7 @@ pub struct Timer {
 }
 
 // What the chip says of a timer: held by internal reset, divided by 8, dual 8-bit, mode 001 cascades.
-#[derive(Drop)]
+#[derive(Clone, Copy)]
 pub struct Setting {
     pub held: bool,
     pub divided: bool,
@@ -34,7 +36,7 @@ pub struct Setting {
 }
 
 // The family of modes that bits 3-5 choose.
-#[derive(Drop)]
+#[derive(Clone, Copy)]
 pub enum Mode {
     Continuous,
     SingleShot,
@@ -42,6 +44,7 @@ pub enum Mode {
     Interval { pulse: bool, greater: bool },
 }
 
+#[tactic(auto, unfolding(crate::specs::Rules::mode_of))]
 fn mode_of(s: Setting, control: u8) -> Mode
     ensures { result ≡ mode_of s control }
 {
@@ -62,6 +65,7 @@ fn mode_of(s: Setting, control: u8) -> Mode
     Mode::Continuous
 }
 
+#[tactic(auto, unfolding(crate::specs::Rules::divider_after))]
 fn divider_after(s: Setting, tick: bool, divider: u8) -> u8
     ensures { result ≡ divider_after s tick divider }
 {
@@ -80,6 +84,7 @@ fn passes_divider(s: Setting, tick: bool, divider: u8) -> bool
     tick & (!s.divided | (divider % 8 == 7))
 }
 
+#[tactic(auto, unfolding(crate::specs::Rules::fallen))]
 fn fall(dual: bool, latch: u16, counter: u16) -> u16
     ensures { result ≡ fallen dual latch counter }
 {
@@ -110,6 +115,7 @@ impl Timer {
         (self.control / 2 % 2 == 1) | (self.clock & !clock)
     }
 
+    #[tactic(auto, unfolding(crate::specs::Rules::initialised))]
     fn initialise(mut self) -> Timer
         ensures { result ≡ initialised self }
     {
@@ -122,6 +128,7 @@ impl Timer {
         self
     }
 
+    #[tactic(auto, unfolding(crate::specs::Rules::held))]
     fn hold(self) -> Timer
         ensures { result ≡ held self }
     {
@@ -132,6 +139,7 @@ impl Timer {
     }
 
     // What a write leaves: held by internal reset, and the divider at 0 where it is off.
+    #[tactic(auto, unfolding(crate::specs::Rules::settled))]
     pub fn settle(mut self, s: Setting) -> Timer
         ensures { result ≡ settled s self }
     {
@@ -145,6 +153,7 @@ impl Timer {
         self
     }
 
+    #[tactic(auto, unfolding(crate::specs::Rules::started))]
     fn start(self) -> Timer
         ensures { result ≡ started self }
     {
@@ -153,6 +162,7 @@ impl Timer {
         t
     }
 
+    #[tactic(auto, unfolding(crate::specs::Rules::caught))]
     fn catch(mut self) -> Timer
         ensures { result ≡ caught self }
     {
@@ -167,6 +177,7 @@ impl Timer {
         !pulse & !greater & self.running & !self.lapsed
     }
 
+    #[tactic(auto, unfolding(crate::specs::Rules::fell))]
     fn fall_interval(self, pulse: bool, greater: bool) -> Timer
         ensures { result ≡ fell (Mode.Interval pulse greater) self }
     {
@@ -179,6 +190,7 @@ impl Timer {
         self.start()
     }
 
+    #[tactic(auto, unfolding(crate::specs::Rules::fell))]
     fn gate_fall(self, mode: Mode) -> Timer
         ensures { result ≡ fell mode self }
     {
@@ -194,6 +206,7 @@ impl Timer {
         }
     }
 
+    #[tactic(auto, unfolding(crate::specs::Rules::loads))]
     fn loaded(self, mode: Mode) -> bool
         ensures { result ≡ loads mode self }
     {
@@ -205,6 +218,7 @@ impl Timer {
         }
     }
 
+    #[tactic(auto, unfolding(crate::specs::Rules::rose))]
     fn rise_pulse(mut self, greater: bool) -> Timer
         ensures { result ≡ rose (Mode.Interval true greater) self }
     {
@@ -215,6 +229,7 @@ impl Timer {
         self
     }
 
+    #[tactic(auto, unfolding(crate::specs::Rules::rose))]
     fn gate_rise(self, mode: Mode) -> Timer
         ensures { result ≡ rose mode self }
     {
@@ -231,6 +246,7 @@ impl Timer {
         }
     }
 
+    #[tactic(auto, unfolding(crate::specs::Rules::gated))]
     fn gate_edge(self, mode: Mode, gate: bool) -> Timer
         ensures { result ≡ gated mode gate self }
     {
@@ -243,6 +259,7 @@ impl Timer {
         self
     }
 
+    #[tactic(auto, unfolding(crate::specs::Rules::enabled))]
     fn counts(self, mode: Mode, gate: bool) -> bool
         ensures { result ≡ enabled mode gate self }
     {
@@ -269,6 +286,7 @@ impl Timer {
         (self.counter / 256 == 0) & !(self.counter % 256 == 0)
     }
 
+    #[tactic(auto, unfolding(crate::specs::Rules::level_after))]
     fn continuous_level(self, s: Setting) -> bool
         ensures { result ≡ level_after Mode.Continuous s self }
     {
@@ -282,6 +300,7 @@ impl Timer {
         self.level
     }
 
+    #[tactic(auto, unfolding(crate::specs::Rules::level_after))]
     fn single_shot_level(self, s: Setting) -> bool
         ensures { result ≡ level_after Mode.SingleShot s self }
     {
@@ -292,6 +311,7 @@ impl Timer {
         !out & (self.level | !self.counted)
     }
 
+    #[tactic(auto, unfolding(crate::specs::Rules::level_after))]
     fn next_level(self, mode: Mode, s: Setting) -> bool
         ensures { result ≡ level_after mode s self }
     {
@@ -311,6 +331,7 @@ impl Timer {
         }
     }
 
+    #[tactic(auto, unfolding(crate::specs::Rules::timed_out))]
     fn flag_time_out(mut self) -> Timer
         ensures { result ≡ timed_out Mode.Continuous self }
     {
@@ -319,6 +340,7 @@ impl Timer {
         self
     }
 
+    #[tactic(auto, unfolding(crate::specs::Rules::timed_out))]
     fn time_out(mut self, mode: Mode) -> Timer
         ensures { result ≡ timed_out mode self }
     {
@@ -336,6 +358,7 @@ impl Timer {
         }
     }
 
+    #[tactic(auto, unfolding(crate::specs::Rules::counted_down))]
     fn count_down(self, s: Setting, mode: Mode) -> Timer
         ensures { result ≡ counted_down s mode self }
     {
@@ -349,24 +372,6 @@ impl Timer {
         t
     }
 
-    // The level of an interval is low.
-    fn lower(mut self, mode: Mode) -> Timer
-        ensures { result ≡ lowered mode self }
-    {
-        match mode {
-            Mode::Continuous => self,
-            Mode::SingleShot => self,
-            Mode::Cascaded => self,
-            Mode::Interval {
-                pulse: _,
-                greater: _,
-            } => {
-                self.level = false;
-                self
-            }
-        }
-    }
-
     fn clocked(mut self, divider: u8, gate: bool, clock: bool) -> Timer
         ensures { result ≡ with_inputs gate clock (with_divider divider self) }
     {
@@ -376,15 +381,15 @@ impl Timer {
         self
     }
 
+    #[tactic(auto, unfolding(crate::specs::Rules::edged))]
     fn edge_first(self, s: Setting, mode: Mode, gate: bool, clock: bool) -> Timer
         ensures { result ≡ edged s mode gate clock self }
     {
         let divider = divider_after(s, self.ticked(clock), self.divider);
-        self.gate_edge(mode, gate)
-            .lower(mode)
-            .clocked(divider, gate, clock)
+        self.gate_edge(mode, gate).clocked(divider, gate, clock)
     }
 
+    #[tactic(auto, unfolding(crate::specs::Rules::reaches))]
     fn clock_reaches(self, s: Setting, mode: Mode, gate: bool, clock: bool) -> bool
         ensures { result ≡ reaches s mode gate clock self }
     {
@@ -392,6 +397,7 @@ impl Timer {
         passed & !(self.gate & !gate & self.loaded(mode))
     }
 
+    #[tactic(auto, unfolding(crate::specs::Rules::free_cycle))]
     fn free_cycle(self, s: Setting, mode: Mode, gate: bool, clock: bool) -> Timer
         ensures { result ≡ free_cycle s mode gate clock self }
     {
@@ -403,6 +409,7 @@ impl Timer {
     }
 
     // One cycle as document 01 has it: gate edges, then clocks; held by internal reset, neither.
+    #[tactic(auto, unfolding(crate::specs::Rules::cycle_of))]
     pub fn full_cycle(mut self, s: Setting, gate: bool, clock: bool) -> Timer
         ensures { result ≡ cycle_of s gate clock self }
     {
@@ -413,6 +420,7 @@ impl Timer {
     }
 
     // Continuous, 16-bit and undivided, not in internal reset, with no gate edge.
+    #[tactic(auto, unfolding(crate::specs::Quick::plain))]
     fn plain(self, s: Setting, gate: bool) -> bool
         ensures { result ≡ plain s gate self }
     {
@@ -424,6 +432,7 @@ impl Timer {
             & (self.gate == gate)
     }
 
+    #[tactic(auto, unfolding(crate::specs::Quick::plain_clock))]
     fn plain_clock(mut self) -> Timer
         ensures { result ≡ plain_clock self }
     {
@@ -439,6 +448,7 @@ impl Timer {
         self
     }
 
+    #[tactic(auto, unfolding(crate::specs::Quick::plain_cycle))]
     fn plain_cycle(mut self, gate: bool, clock: bool) -> Timer
         ensures { result ≡ plain_cycle gate clock self }
     {
@@ -465,6 +475,7 @@ impl Timer {
     }
 
     // 000, and 001 on the 6840, begin anew with the latch; 010 and 011 do not.
+    #[tactic(auto, unfolding(crate::specs::Rules::written))]
     fn load_by_write(self) -> Timer
         ensures { result ≡ written Mode.Continuous self }
     {
@@ -483,6 +494,7 @@ impl Timer {
         self
     }
 
+    #[tactic(auto, unfolding(crate::specs::Rules::written))]
     fn take_latch(self, mode: Mode) -> Timer
         ensures { result ≡ written mode self }
     {
@@ -498,6 +510,7 @@ impl Timer {
     }
 
     // W, a latch write.
+    #[tactic(auto, unfolding(crate::specs::Rules::latch_written))]
     pub fn write_latch(mut self, s: Setting, value: u16) -> Timer
         ensures { result ≡ latch_written s value self }
     {
@@ -516,6 +529,7 @@ impl Timer {
         self
     }
 
+    #[tactic(auto, unfolding(crate::specs::Rules::control_written))]
     pub fn write_control(mut self, value: u8) -> Timer
         ensures { result ≡ control_written value self }
     {
@@ -549,6 +563,7 @@ impl Timer {
     }
 
     // An MSB read clears an armed flag.
+    #[tactic(auto, unfolding(crate::specs::Rules::msb_read))]
     pub fn read_msb(mut self) -> Timer
         ensures { result ≡ msb_read self }
     {
@@ -594,6 +609,7 @@ impl Timer {
         self.divider <= 7
     }
 
+    #[tactic(auto, unfolding(crate::specs::Rules::pin_in))]
     pub fn pin(self, s: Setting) -> bool
         ensures { result ≡ pin_of s self }
     {

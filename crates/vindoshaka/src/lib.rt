@@ -1,4 +1,6 @@
 // What a host links: start and report, and a move for each chip that is lent the host's board.
+#![tactic(auto)]
+
 ghost use Rattle.std.specs.Prelude.{◌≡◌};
 ghost use Rattle.board.specs.Calls.{move6846, move6840};
 ghost use Rattle.board.specs.Record.{start_of, report_of};
@@ -8,7 +10,7 @@ use board::{Board, Pins, move_6840, move_6846, report, start};
 
 // The number of a move, and the cycles done.
 #[repr(C)]
-#[derive(Drop)]
+#[derive(Clone, Copy)]
 pub struct Moved {
     pub number: u32,
     pub count: u32,
@@ -16,7 +18,7 @@ pub struct Moved {
 
 // The board that a start gives, and its number.
 #[repr(C)]
-#[derive(Drop)]
+#[derive(Clone, Copy)]
 pub struct Started {
     pub board: Board,
     pub number: u32,
@@ -24,19 +26,20 @@ pub struct Started {
 
 // The number of a report; the levels P0-P7 in bits 0-7, CP2, CTO, O1-O3 and IRQ in 8 to 13.
 #[repr(C)]
-#[derive(Drop)]
+#[derive(Clone, Copy)]
 pub struct Report {
     pub number: u32,
     pub levels: u32,
 }
 
 // A move by value: the board to be put back, and what the caller is told.
-#[derive(Drop)]
+#[derive(Clone, Copy)]
 struct Ran {
     board: Board,
     moved: Moved,
 }
 
+#[tactic(auto, unfolding(crate::specs::Host::weight))]
 fn weigh(set: bool, value: u32) -> u32
     ensures { result ≡ weight set value }
 {
@@ -46,6 +49,7 @@ fn weigh(set: bool, value: u32) -> u32
     0
 }
 
+#[tactic(auto, unfolding(crate::specs::Host::level_bits))]
 fn level_bits(pins: Pins) -> u32
     ensures { result ≡ level_bits pins }
 {
@@ -58,6 +62,7 @@ fn level_bits(pins: Pins) -> u32
         + weigh(pins.irq, 8192)
 }
 
+#[tactic(auto, unfolding(crate::specs::Host::seen))]
 fn see(board: Board) -> Report
     ensures { result ≡ seen (report_of board) }
 {
@@ -69,8 +74,10 @@ fn see(board: Board) -> Report
     }
 }
 
+#[tactic(auto, unfolding(crate::specs::Host::told))]
 fn run_6846(board: Board, rom: &[u8], events: &[u32], answers: &mut [u16], cycles: u32) -> Ran
-    ensures { lent result.board result.moved answers.new ≡ told (move6846 rom.now events.now cycles board answers.old) }
+    ensures gives { lent result.board result.moved answers.new ≡ told (move6846 rom.now events.now cycles board answers.old) }
+    ensures stays { result.moved.count ≡ 0 → result.board ≡ board }
 {
     let result = move_6846(board, rom, events, answers, cycles);
     let after = result.board;
@@ -84,8 +91,10 @@ fn run_6846(board: Board, rom: &[u8], events: &[u32], answers: &mut [u16], cycle
     }
 }
 
+#[tactic(auto, unfolding(crate::specs::Host::told))]
 fn run_6840(board: Board, events: &[u32], answers: &mut [u16], cycles: u32) -> Ran
-    ensures { lent result.board result.moved answers.new ≡ told (move6840 events.now cycles board answers.old) }
+    ensures gives { lent result.board result.moved answers.new ≡ told (move6840 events.now cycles board answers.old) }
+    ensures stays { result.moved.count ≡ 0 → result.board ≡ board }
 {
     let result = move_6840(board, events, answers, cycles);
     let after = result.board;
@@ -100,6 +109,7 @@ fn run_6840(board: Board, events: &[u32], answers: &mut [u16], cycles: u32) -> R
 }
 
 // A board of these options, at the caller's stamp.
+#[tactic(auto, unfolding(crate::specs::Host::begun))]
 #[unsafe(no_mangle)]
 pub extern "C" fn vindoshaka_start(
     rom: u32,

@@ -92,8 +92,8 @@ module _ (P : Pair) where
 
   stepped : (c : Chip) (w : Board P) → Stepped c w (cycle P c w)
   unfolding cycle driven listened
-  stepped Chip.driver w = unless _ w _ _ _ (unless _ w _ _ _ (unless _ w _ _ (Cycled.done (driven P w)) (refl, refl, refl)))
-  stepped Chip.listener w = unless _ w _ _ _ (unless _ w _ _ (Cycled.done (listened P w)) (refl, refl, refl))
+  stepped Chip.driver w = unless Chip.driver w _ _ _ (unless Chip.driver w _ _ _ (unless Chip.driver w _ _ (Cycled.done (driven P w)) (refl, refl, refl)))
+  stepped Chip.listener w = unless Chip.listener w _ _ _ (unless Chip.listener w _ _ (Cycled.done (listened P w)) (refl, refl, refl))
 
   moved : (c : Chip) (n : ℕ) (w : Board P) → Fits c w → let r = called P c n w in Moved c r.count w r.board
   unfolding called goes_on

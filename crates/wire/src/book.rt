@@ -7,13 +7,14 @@ use crate::stamp::ahead;
 
 // The place of the oldest waiting change, and how many wait.
 #[repr(C)]
-#[derive(Drop)]
+#[derive(Clone, Copy)]
 pub struct Ends {
     pub first: u32,
     pub waiting: u32,
 }
 
 // A change more, made by the cycle `stamp`; a full book stays as it is.
+#[tactic(auto, using(crate::proofs::Ring::around), unfolding(crate::specs::Book::noted_of))]
 pub fn noted(places: &mut [u32; 64], ends: Ends, stamp: u32) -> Ends
     ensures { book_of places.new result ≡ noted_of places.old ends stamp }
 {
@@ -31,6 +32,7 @@ pub fn noted(places: &mut [u32; 64], ends: Ends, stamp: u32) -> Ends
 }
 
 // The listener, at `stamp`, does its next cycle: the oldest change leaves if it is of that stamp.
+#[tactic(auto, using(crate::proofs::Ring::around), unfolding(crate::specs::Book::left_of))]
 pub fn left(places: &[u32; 64], ends: Ends, stamp: u32) -> Ends
     ensures { result ≡ left_of places.now ends stamp }
 {
@@ -58,6 +60,7 @@ pub fn heard(places: &[u32; 64], ends: Ends, stamp: u32, level: bool) -> bool
 }
 
 // How many cycles there are from the listener's stamp to the driver's.
+#[tactic(auto, unfolding(crate::specs::Order::span_of))]
 fn span(listener: u32, driver: u32) -> u32
     ensures { result ≡ span_of listener driver }
 {

@@ -10,6 +10,7 @@ pub fn next(stamp: u32) -> u32
 }
 
 // How far `to` lies past `from`.
+#[tactic(auto, unfolding(crate::specs::Stamp::gap))]
 pub fn ahead(from: u32, to: u32) -> u32
     ensures { result ≡ gap from to }
 {
@@ -17,6 +18,7 @@ pub fn ahead(from: u32, to: u32) -> u32
 }
 
 // The lead: below zero where the listener leads.
+#[tactic(auto, unfolding(crate::specs::Stamp::lead_of, crate::specs::Stamp::signed))]
 pub fn lead(listener: u32, driver: u32) -> i32
     ensures { result ≡ lead_of listener driver }
 {
@@ -29,6 +31,7 @@ pub fn lead(listener: u32, driver: u32) -> i32
 }
 
 // Whether the stamps are as near as the rules let them be.
+#[tactic(auto, unfolding(crate::specs::Stamp::in_reach, crate::specs::Stamp::listener_limit))]
 pub fn in_reach(listener: u32, driver: u32, wired: bool) -> bool
     ensures { result ≡ in_reach listener driver wired }
 {
@@ -40,6 +43,7 @@ pub fn in_reach(listener: u32, driver: u32, wired: bool) -> bool
 }
 
 // Whether the driver must wait.
+#[tactic(auto, unfolding(crate::specs::Stamp::driver_waits))]
 pub fn driver_waits(listener: u32, driver: u32) -> bool
     ensures { result ≡ driver_waits listener driver }
 {
@@ -47,6 +51,7 @@ pub fn driver_waits(listener: u32, driver: u32) -> bool
 }
 
 // Whether the listener must wait.
+#[tactic(auto, unfolding(crate::specs::Stamp::listener_waits, crate::specs::Stamp::listener_limit))]
 pub fn listener_waits(listener: u32, driver: u32, wired: bool) -> bool
     ensures { result ≡ listener_waits listener driver wired }
 {

@@ -1,9 +1,11 @@
 // The words of a line.
+#![tactic(auto)]
+
 ghost use Rattle.std.specs.Prelude.{◌≡◌};
 ghost use Rattle.words.specs.Words.{blank, letter, blanks_end, word_end, word_after, word_of, text_of, filled_at, same_text};
 
 // Where a word starts and ends; nothing stands between where there is none.
-#[derive(Drop)]
+#[derive(Clone, Copy)]
 pub struct Word {
     pub from: usize,
     pub to: usize,
@@ -52,6 +54,7 @@ fn word_end(line: &[u8], at: usize) -> usize
 }
 
 // The next word from a place on.
+#[tactic(auto, unfolding(crate::specs::Words::word_after))]
 fn word_after(line: &[u8], at: usize) -> Word
     ensures { result ≡ word_after line.now at }
 {
@@ -76,6 +79,7 @@ pub fn find(line: &[u8], n: usize) -> Word
 }
 
 // The bytes of word `n` of a line.
+#[tactic(auto, using(crate::proofs::Within::word_in))]
 pub fn text(line: &[u8], n: usize) -> &[u8]
     ensures { result.now ≡ text_of line.now n }
 {

@@ -1,0 +1,14 @@
+-- The cycles that are left, from here, are all of them from the start. The measure is how many are left.
+use Rattle.std.proofs.Common.{◌≡◌, ◌≤◌, ◌-◌, length}
+use Rattle.outcomes.specs.declared.Outcome.TheVariants.{Done}
+use Rattle.mover6840.specs.Cycle.{world, run_of}
+use Rattle.mover6840.proofs.run_6840.Given as goal
+
+abbrev pub invariant-loop-i : goal.invariant-loop-i
+invariant-loop-i l =
+    (l.i ≤ l.cycles) × (length l.answers ≡ length l.initial.answers) ×
+    (run_of l.given l.places l.events l.cycles (world l.initial.state l.initial.answers Done) ≡
+    run_of l.given l.places l.events (l.cycles - l.i) (world l.state l.answers Done))
+
+abbrev pub decreases-loop-i : goal.decreases-loop-i
+decreases-loop-i l = l.cycles - l.i
