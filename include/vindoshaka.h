@@ -1,15 +1,8 @@
 /*
  * vindoshaka.h: an MC6846 (ROM, port, timer) and an MC6840 (three timers) on one board, cycle by cycle.
  *
- * Link libvindoshaka.a. The library keeps nothing, allocates nothing and calls nothing but memcpy and memset. Calls on different boards
- * may run at the same time.
- *
- * Every call returns, whatever numbers the record, the lists and the counts hold, as long as the caller keeps to this:
- * - `board` is never NULL. `rom`, `events` and `answers` MAY BE NULL WITH LENGTH 0, and with no other length.
- * - Each pointer is aligned as its C type is: a board to 8 bytes, events to 4, answers to 2. It points to as many elements as its length says.
- * - `board` and `answers` overlap nothing else that the call is lent; `rom` and `events` may overlap.
- * - EVERY FIELD OF TYPE bool HOLDS THE BYTE 0 OR 1, as start and the moves leave it. Another byte there is undefined behaviour: number 9 does
- *   not find it. So a host checks the bools of a record that comes from a file or a net before it lends it.
+ * Link libvindoshaka.a. The library keeps nothing, allocates nothing and calls nothing but memcpy and memset; every call returns, whatever the
+ * record, the lists and the counts hold. Calls on different boards may run at the same time.
  *
  * C11 and C++11.
  */
@@ -24,10 +17,7 @@
 extern "C" {
 #endif
 
-/*
- * The numbers returned. 1 to 4, 8 and 9 refuse: nothing is done. 5 to 7 stop: the cycles counted are done. A move that counts no cycle
- * stores nothing, neither to the board nor to the answers.
- */
+/* The numbers returned. 1 to 4, 8 and 9 refuse: nothing is done. 5 to 7 stop: the cycles counted are done. */
 enum vindoshaka_number {
     VINDOSHAKA_DONE = 0,          /* all asked cycles done (zero included) */
     VINDOSHAKA_BAD_OPTION = 1,    /* start: an option is outside its values or the two codes are equal */
@@ -104,8 +94,8 @@ typedef struct vindoshaka_ends {
 } vindoshaka_ends;
 
 /*
- * The whole board. A host may keep, copy and compare it field by field; the calls below are the way to change it. A record that is
- * outside its ranges is refused with number 9; every bool is 0 or 1, see above.
+ * The whole board. A host may keep, copy and compare it; the calls below are the way to change it. A record that is
+ * outside its ranges is refused with number 9. A bool holds 0 or 1.
  */
 typedef struct vindoshaka_board {
     vindoshaka_select select;
@@ -149,7 +139,7 @@ vindoshaka_started vindoshaka_start(uint32_t rom_code, uint32_t io_code, uint32_
  *   levels: bits 0-7 P, 8 CP1, 9 CP2, 10 CTG, 11 CTC, 12 RESET
  *   access: bit 0 present, 1 read, 2 CS0, 3 CS1, 4-14 A0-A10, 16-23 data
  * The list holds all events from the board's start on, and one answer place for each: the byte read, or 256 if nothing was
- * driven. Lengths are in elements.
+ * driven. Lengths are in elements; a pointer of length 0 may be anything but NULL. `board` and `answers` overlap nothing.
  */
 vindoshaka_moved vindoshaka_move_6846(vindoshaka_board *board, const uint8_t *rom, size_t rom_len,
                                       const uint32_t *events, size_t events_len, uint16_t *answers,
@@ -165,30 +155,6 @@ vindoshaka_moved vindoshaka_move_6840(vindoshaka_board *board, const uint32_t *e
 
 /* The levels of the pins, once both chips have done the same cycles: number 0, 8 or 9. */
 vindoshaka_levels vindoshaka_report(const vindoshaka_board *board);
-
-/*
- * NULL with length 0. The library itself is proved for pointers to something, so a move that is called by its name goes through one of
- * these, which lends it a place of their own for each NULL. A move called by its address does not, and is handed no NULL.
- */
-static inline vindoshaka_moved vindoshaka_lend_6846(vindoshaka_board *board, const uint8_t *rom, size_t rom_len,
-                                                    const uint32_t *events, size_t events_len, uint16_t *answers,
-                                                    size_t answers_len, uint32_t cycles) {
-    const uint8_t byte = 0;
-    const uint32_t word = 0;
-    uint16_t place = 0;
-    return vindoshaka_move_6846(board, rom ? rom : &byte, rom_len, events ? events : &word, events_len,
-                                answers ? answers : &place, answers_len, cycles);
-}
-
-static inline vindoshaka_moved vindoshaka_lend_6840(vindoshaka_board *board, const uint32_t *events, size_t events_len,
-                                                    uint16_t *answers, size_t answers_len, uint32_t cycles) {
-    const uint32_t word = 0;
-    uint16_t place = 0;
-    return vindoshaka_move_6840(board, events ? events : &word, events_len, answers ? answers : &place, answers_len, cycles);
-}
-
-#define vindoshaka_move_6846(...) vindoshaka_lend_6846(__VA_ARGS__)
-#define vindoshaka_move_6840(...) vindoshaka_lend_6840(__VA_ARGS__)
 
 #ifdef __cplusplus
 }

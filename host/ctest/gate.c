@@ -102,6 +102,8 @@ static void refusals(void) {
     const uint32_t events[4] = {1, ALL_6846, 0, 0};
     uint16_t answers[2] = {7, 8}, kept[2] = {7, 8};
     vindoshaka_board board, before;
+    vindoshaka_started s = vindoshaka_start(4, 1, 0, 0, 0, 5);
+    EXPECT(s.number == VINDOSHAKA_BAD_OPTION && s.board.stamp6846 == 0 && s.board.select.io == 1);
     memset(&board, 1, sizeof board);
     memcpy(&before, &board, sizeof board);
     EXPECT(vindoshaka_move_6846(&board, rom, 2048, events, 3, answers, 1, 1).number == VINDOSHAKA_BAD_RECORD);
@@ -120,27 +122,10 @@ static void refusals(void) {
     EXPECT(memcmp(&board, &before, sizeof board) == 0 && memcmp(answers, kept, sizeof answers) == 0);
 }
 
-/* NULL with length 0, each argument evaluated once; a move is still a function that has an address. */
-static void nulls(void) {
-    static uint8_t rom[2048];
-    vindoshaka_board board = vindoshaka_start(0, 1, 0, 0, 0, 0).board;
-    uint32_t asked = 6;
-    vindoshaka_moved moved = vindoshaka_move_6846(&board, NULL, 0, NULL, 0, NULL, 0, 5);
-    EXPECT(moved.number == VINDOSHAKA_BAD_ROM && moved.count == 0 && board.stamp6846 == 0);
-    moved = vindoshaka_move_6846(&board, rom, sizeof rom, NULL, 0, NULL, 0, asked++);
-    EXPECT(moved.number == VINDOSHAKA_DONE && moved.count == 6 && board.stamp6846 == 6 && asked == 7);
-    moved = vindoshaka_move_6840(&board, NULL, 0, NULL, 0, asked++);
-    EXPECT(moved.number == VINDOSHAKA_DONE && moved.count == 7 && board.stamp6840 == 7 && asked == 8);
-    EXPECT(vindoshaka_move_6840(&board, (uint32_t[]){8, ALL_6840, 0}, 3, NULL, 0, 1).number == VINDOSHAKA_FEW_PLACES);
-    vindoshaka_moved (*by_address)(vindoshaka_board *, const uint32_t *, size_t, uint16_t *, size_t, uint32_t) = vindoshaka_move_6840;
-    EXPECT(by_address(&board, &asked, 0, (uint16_t[]){0}, 0, 1).count == 1);
-}
-
 int main(void) {
     starts();
     small_gate();
     refusals();
-    nulls();
     puts(failed ? "ctest: FAILED" : "ctest: ok");
     return failed;
 }

@@ -1,4 +1,4 @@
-//! Says where libvindoshaka.a is: VINDOSHAKA_LIB, else lib/ in this crate, else target/staticlib of the repository.
+//! Says where libvindoshaka.a is: VINDOSHAKA_LIB, else lib/ in this crate, else crates/vindoshaka/out of the repository.
 use std::env;
 use std::path::{Path, PathBuf};
 
@@ -7,7 +7,7 @@ fn main() {
     let here = PathBuf::from(env::var("CARGO_MANIFEST_DIR").expect("cargo sets it"));
     let folders = match env::var("VINDOSHAKA_LIB") {
         Ok(folder) => vec![PathBuf::from(folder)],
-        Err(_) => vec![here.join("lib"), here.join("../../target/staticlib")],
+        Err(_) => vec![here.join("lib"), here.join("../../crates/vindoshaka/out")],
     };
     let archive = |folder: &Path| folder.join("libvindoshaka.a");
     let folder = match folders.iter().find(|folder| archive(folder).exists()) {

@@ -1,7 +1,7 @@
 //! A record of the library and the board of the second emulator, held against each other.
 
 use second::{Book, Chip6840, Chip6846, Port, Select, Timer};
-use vindoshaka::{level, raw};
+use vindoshaka::raw;
 
 fn bits(levels: &[bool]) -> u32 {
     levels
@@ -52,8 +52,7 @@ fn wired_bit(board: &raw::Board) -> u32 {
     }
 }
 
-/// The level that CP2 drives, from the rest of the record: a cycle of the 6846 leaves no other, and the second emulator, which has
-/// no field for it, reports no other.
+/// The level that CP2 drives, from the rest of the record: a cycle leaves no other.
 pub fn driven(c: &raw::Combo) -> bool {
     match c.pcr >> 3 & 3 {
         0 => c.flag1 || c.raised,
@@ -63,12 +62,14 @@ pub fn driven(c: &raw::Combo) -> bool {
     }
 }
 
-/// The second emulator has one field for the levels that stay between events and those sampled last, so a record where they differ
-/// has no board there. Bits of the word that no level has are not looked at.
+/// The second emulator has one field for the levels held and sampled and none for the level that CP2 drives, so a record
+/// where they differ has no board there. Its book's end is below its room, and options are of any size in both.
 pub fn has_twin(board: &raw::Board) -> bool {
-    let heard = level::ALL_6840 & !wired_bit(board);
-    board.levels6846 & level::ALL_6846 == sampled_6846(board)
+    let heard = !wired_bit(board);
+    board.levels6846 == sampled_6846(board)
         && board.levels6840 & heard == sampled_6840(board) & heard
+        && board.combo.driven == driven(&board.combo)
+        && board.ends.first < 64
 }
 
 pub fn twin(board: &raw::Board) -> second::Board {
@@ -127,6 +128,10 @@ fn seen(board: &second::Board) -> second::Board {
     seen.book.cycles = [0; 64];
     seen.book.cycles[..changes.len()].copy_from_slice(&changes);
     seen.book.first = 0;
+    // Nobody sees what was captured once it is released.
+    if !seen.chip_6846.port.captured {
+        seen.chip_6846.port.capture = 0;
+    }
     seen
 }
 

@@ -138,26 +138,6 @@ impl Board {
         if let Some(number) = refused_list(events, answers, self.done_6846) {
             return (number, 0);
         }
-        // The first cycle apart, as it may find a record that no cycle left.
-        let (number, one) = self.run_6846(rom, events, answers, cycles.min(1), true, watch);
-        if number != number::DONE {
-            return (number, one);
-        }
-        let (number, rest) = self.run_6846(rom, events, answers, cycles - one, false, watch);
-        (number, one + rest)
-    }
-
-    /// The cycles of a call that is not refused.
-    #[inline(always)]
-    fn run_6846<W: Watch>(
-        &mut self,
-        rom: &[u8; 2048],
-        events: &[u32],
-        answers: &mut [u16],
-        cycles: u32,
-        first: bool,
-        watch: &mut W,
-    ) -> (u32, u32) {
         let mut count = 0;
         while count < cycles {
             // Before each cycle 5, 6, 7. A good event stays good until its own cycle, so it is taken
@@ -170,7 +150,7 @@ impl Board {
             let quiet = quiet_cycles(event, cycles - count);
             for _ in 0..quiet {
                 let held = self.chip_6846.levels;
-                match self.cycle_6846(rom, held, 0, first, watch) {
+                match self.cycle_6846(rom, held, 0, watch) {
                     Ok(_) => count += 1,
                     Err(number) => return (number, count),
                 }
@@ -179,7 +159,7 @@ impl Board {
                 Some(event) if count < cycles => event,
                 _ => continue,
             };
-            match self.cycle_6846(rom, event.levels, event.access, first, watch) {
+            match self.cycle_6846(rom, event.levels, event.access, watch) {
                 Ok(answer) => {
                     answers[self.done_6846] = answer;
                     self.done_6846 += 1;
@@ -205,23 +185,6 @@ impl Board {
         if let Some(number) = refused_list(events, answers, self.done_6840) {
             return (number, 0);
         }
-        let (number, one) = self.run_6840(events, answers, cycles.min(1), true, watch);
-        if number != number::DONE {
-            return (number, one);
-        }
-        let (number, rest) = self.run_6840(events, answers, cycles - one, false, watch);
-        (number, one + rest)
-    }
-
-    #[inline(always)]
-    fn run_6840<W: Watch>(
-        &mut self,
-        events: &[u32],
-        answers: &mut [u16],
-        cycles: u32,
-        first: bool,
-        watch: &mut W,
-    ) -> (u32, u32) {
         let mut count = 0;
         while count < cycles {
             let event = match next(events, self.done_6840, self.stamp_6840, &FORM_6840) {
@@ -231,7 +194,7 @@ impl Board {
             let quiet = quiet_cycles(event, cycles - count);
             for _ in 0..quiet {
                 let held = self.chip_6840.levels;
-                match self.cycle_6840(held, 0, first, watch) {
+                match self.cycle_6840(held, 0, watch) {
                     Ok(_) => count += 1,
                     Err(number) => return (number, count),
                 }
@@ -240,7 +203,7 @@ impl Board {
                 Some(event) if count < cycles => event,
                 _ => continue,
             };
-            match self.cycle_6840(event.levels, event.access, first, watch) {
+            match self.cycle_6840(event.levels, event.access, watch) {
                 Ok(answer) => {
                     answers[self.done_6840] = answer;
                     self.done_6840 += 1;
@@ -259,7 +222,6 @@ impl Board {
         rom: &[u8; 2048],
         levels: u32,
         access: u32,
-        first: bool,
         watch: &mut W,
     ) -> Result<u16, u32> {
         // A chip waits if it already leads by 65,536.
@@ -269,9 +231,9 @@ impl Board {
         // Only a wire keeps a book.
         let answer = if self.wire == 0 {
             self.chip_6846
-                .cycle(&self.select, rom, levels, access, first, watch)
+                .cycle(&self.select, rom, levels, access, watch)
         } else {
-            self.cycle_noted(rom, levels, access, first, watch)?
+            self.cycle_noted(rom, levels, access, watch)?
         };
         // Each cycle adds one to the stamp, is named by the stamp it gives, and goes round.
         self.stamp_6846 = self.stamp_6846.wrapping_add(1);
@@ -288,16 +250,15 @@ impl Board {
         rom: &[u8; 2048],
         levels: u32,
         access: u32,
-        first: bool,
         watch: &mut W,
     ) -> Result<u16, u32> {
         let before = self.chip_6846.cto();
-        if self.book.is_full() && self.would_change_cto(rom, levels, access, first) {
+        if self.book.is_full() && self.would_change_cto(rom, levels, access) {
             return Err(number::BOOK_FULL);
         }
         let answer = self
             .chip_6846
-            .cycle(&self.select, rom, levels, access, first, watch);
+            .cycle(&self.select, rom, levels, access, watch);
         if self.chip_6846.cto() != before {
             self.book.note(self.stamp_6846.wrapping_add(1));
             watch.booked(self.book.waiting);
@@ -307,9 +268,9 @@ impl Board {
 
     /// Tries the cycle on a copy; only asked while 64 changes wait.
     #[cold]
-    fn would_change_cto(&self, rom: &[u8; 2048], levels: u32, access: u32, first: bool) -> bool {
+    fn would_change_cto(&self, rom: &[u8; 2048], levels: u32, access: u32) -> bool {
         let mut trial = self.chip_6846.clone();
-        trial.cycle(&self.select, rom, levels, access, first, &mut Nobody);
+        trial.cycle(&self.select, rom, levels, access, &mut Nobody);
         trial.cto() != self.chip_6846.cto()
     }
 
@@ -319,7 +280,6 @@ impl Board {
         &mut self,
         levels: u32,
         access: u32,
-        first: bool,
         watch: &mut W,
     ) -> Result<u16, u32> {
         // The 6840 leads by minus the lead; with a wire it also waits if it leads by 1.
@@ -328,9 +288,9 @@ impl Board {
             return Err(number::MUST_WAIT);
         }
         let answer = if self.wire == 0 {
-            self.chip_6840.cycle(levels, access, first, watch)
+            self.chip_6840.cycle(levels, access, watch)
         } else {
-            self.cycle_wired(levels, access, first, watch)
+            self.cycle_wired(levels, access, watch)
         };
         self.stamp_6840 = self.stamp_6840.wrapping_add(1);
         if self.stamp_6840 == 0 {
@@ -341,20 +301,14 @@ impl Board {
 
     /// A cycle that hears CTO as it was after the cycle before; the wired input's own bit is ignored.
     #[inline(always)]
-    fn cycle_wired<W: Watch>(
-        &mut self,
-        levels: u32,
-        access: u32,
-        first: bool,
-        watch: &mut W,
-    ) -> u16 {
+    fn cycle_wired<W: Watch>(&mut self, levels: u32, access: u32, watch: &mut W) -> u16 {
         // CTO now, turned once for each waiting change of a later cycle than the one before this.
         let seen_now = self.book.begins_with(self.stamp_6840);
         let later = self.book.waiting - seen_now as u32;
         let heard = self.chip_6846.cto() ^ (later & 1 != 0);
         let place = self.wire - 1;
         let levels = levels & !(1 << place) | (heard as u32) << place;
-        let answer = self.chip_6840.cycle(levels, access, first, watch);
+        let answer = self.chip_6840.cycle(levels, access, watch);
         // A change of cycle c leaves when the 6840 has done cycle c+1.
         if seen_now {
             self.book.drop_first();

@@ -45,7 +45,7 @@ impl Book {
 
     #[inline(always)]
     pub fn drop_first(&mut self) {
-        self.first = self.first.wrapping_add(1) % ROOM;
+        self.first = (self.first + 1) % ROOM;
         self.waiting -= 1;
     }
 

@@ -56,9 +56,8 @@ impl Chip6840 {
     }
 
     /// One cycle: sample levels; RESET; gate edges; clocks; bus access. Output levels follow from the state.
-    /// The `first` of a call may find a record that no cycle left: what holds in every cycle is then seen to.
     #[inline(always)]
-    pub fn cycle<W: Watch>(&mut self, levels: u32, access: u32, first: bool, watch: &mut W) -> u16 {
+    pub fn cycle<W: Watch>(&mut self, levels: u32, access: u32, watch: &mut W) -> u16 {
         let fell = self.levels & !levels;
         let rose = levels & !self.levels;
         self.levels = levels;
@@ -66,9 +65,6 @@ impl Chip6840 {
             watch.reset_cycle(true, access & PRESENT != 0);
             self.reset();
             return self.answer_in_reset(access);
-        }
-        if first {
-            self.settle();
         }
         let held = self.held();
         let [one, two, three] = &mut self.timers;
@@ -169,14 +165,11 @@ impl Chip6840 {
         self.settle();
     }
 
-    /// What holds in every cycle; of what a cycle does, only a write can undo it.
-    #[inline]
     fn settle(&mut self) {
         let held = self.held();
-        let [one, two, three] = &mut self.timers;
-        one.settle(Place::One, held);
-        two.settle(Place::Two, held);
-        three.settle(Place::Three, held);
+        for (timer, place) in self.timers.iter_mut().zip(PLACES) {
+            timer.settle(place, held);
+        }
     }
 
     /// O1-O3 in bits 0-2.

@@ -91,7 +91,6 @@ impl Chip6846 {
     }
 
     /// One cycle: sample levels; RESET; gate and CP edges; clocks; bus access. Output levels follow from the state.
-    /// The `first` of a call may find a record that no cycle left: what holds in every cycle is then seen to.
     #[inline(always)]
     pub fn cycle<W: Watch>(
         &mut self,
@@ -99,7 +98,6 @@ impl Chip6846 {
         rom: &[u8; 2048],
         levels: u32,
         access: u32,
-        first: bool,
         watch: &mut W,
     ) -> u16 {
         // An edge compares with the previous cycle's level, also across a reset.
@@ -110,9 +108,6 @@ impl Chip6846 {
             watch.reset_cycle(false, access & PRESENT != 0);
             self.reset();
             return self.answer_in_reset(select, rom, access);
-        }
-        if first {
-            self.settle();
         }
         self.port
             .edges(fell >> CP1_PLACE, rose >> CP1_PLACE, levels as u8, watch);
@@ -248,10 +243,7 @@ impl Chip6846 {
         }
     }
 
-    /// What holds in every cycle; of what a cycle does, only a write can undo it.
-    #[inline]
     fn settle(&mut self) {
-        self.port.settle();
         let held = self.held();
         self.timer.settle(Place::Of6846, held);
     }

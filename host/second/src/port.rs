@@ -20,7 +20,7 @@ pub struct Port {
     pub armed_1: bool,
     pub flag_2: bool,
     pub armed_2: bool,
-    /// All eight levels at the first active CP1 edge, until they are released; then 0.
+    /// All eight levels at the first active CP1 edge, until they are released.
     pub captured: bool,
     pub capture: u8,
     /// The last cycle had a PDR access.
@@ -104,7 +104,7 @@ impl Port {
         if self.captured {
             watch.capture_read();
         }
-        self.release();
+        self.captured = false;
         self.touch(watch);
     }
 
@@ -121,34 +121,21 @@ impl Port {
         }
     }
 
-    /// PCR6 stores 0.
+    /// PCR6 stores 0. PCR2=0 releases the capture at once; PCR7=1 clears all but the PCR.
     pub fn write_control(&mut self, data: u8) {
         self.pcr = data & !BIT_6;
-        self.settle();
-    }
-
-    /// What holds in every cycle: PCR2=0 releases the capture; while PCR7=1, DDR, PDR, flags 1 and 2 and
-    /// the capture are held clear.
-    #[inline]
-    pub fn settle(&mut self) {
         if self.pcr & CAPTURE == 0 {
-            self.release();
+            self.captured = false;
         }
         if self.pcr & HELD != 0 {
             self.ddr = 0;
             self.pdr = 0;
-            self.release();
+            self.captured = false;
             self.flag_1 = false;
             self.armed_1 = false;
             self.flag_2 = false;
             self.armed_2 = false;
         }
-    }
-
-    #[inline]
-    fn release(&mut self) {
-        self.captured = false;
-        self.capture = 0;
     }
 
     /// A status read arms every set flag.

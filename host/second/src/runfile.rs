@@ -2,10 +2,8 @@
 
 use crate::board::Board;
 use crate::watch::Watch;
-use std::ffi::OsStr;
 use std::fs::File;
 use std::io::{self, Read, Write};
-use std::os::unix::ffi::OsStrExt;
 
 /// What an answer place holds until it is written.
 pub const UNWRITTEN: u16 = 43_981;
@@ -13,8 +11,6 @@ pub const UNWRITTEN: u16 = 43_981;
 pub const MOST_EVENTS: usize = 65_536;
 /// Bytes a line may hold before its LF.
 pub const LONGEST_LINE: usize = 4_096;
-/// Bytes of a word that a message shows.
-const LONGEST_SHOWN: usize = 64;
 /// Bytes a lent ROM file may hold.
 pub const LONGEST_ROM: usize = 65_536;
 
@@ -56,11 +52,9 @@ impl List {
         self.answers.clear();
     }
 
-    fn add(&mut self, name: &str, event: &[u32]) -> Result<(), String> {
+    fn add(&mut self, event: &[u32]) -> Result<(), String> {
         if self.answers.len() == MOST_EVENTS {
-            return Err(format!(
-                "more than {MOST_EVENTS} events on the list: {name}"
-            ));
+            return Err(format!("more than {MOST_EVENTS} events on a list"));
         }
         self.words.extend_from_slice(event);
         self.answers.push(UNWRITTEN);
@@ -111,7 +105,7 @@ fn take_line<'t>(rest: &mut &'t [u8]) -> Result<&'t [u8], String> {
     };
     *rest = after;
     if line.len() > LONGEST_LINE {
-        return Err(format!("more than {LONGEST_LINE} bytes"));
+        return Err(format!("line of more than {LONGEST_LINE} bytes"));
     }
     match line.split_last() {
         Some((b'\r', front)) if end.is_some() => Ok(front),
@@ -129,7 +123,7 @@ fn words_of(line: &[u8]) -> Vec<&[u8]> {
 
 /// Decimal, or hex with the prefix `0x`, up to 4,294,967,295; leading zeros allowed.
 fn number_of(word: &[u8]) -> Result<u32, String> {
-    let bad = || format!("bad number: {}", shown(word));
+    let bad = || format!("bad number `{}`", shown(word));
     let (digits, radix) = match word.strip_prefix(b"0x") {
         Some(digits) => (digits, 16),
         None => (word, 10),
@@ -148,19 +142,11 @@ fn number_of(word: &[u8]) -> Result<u32, String> {
     Ok(value)
 }
 
-/// Exactly `N` words after the command's own.
-fn counted<'w, 't, const N: usize>(
-    command: &[u8],
-    words: &'w [&'t [u8]],
-) -> Result<&'w [&'t [u8]; N], String> {
-    words
-        .try_into()
-        .map_err(|_| format!("wrong number of words: {N} come after {}", shown(command)))
-}
-
 /// Exactly `N` numbers.
-fn numbers<const N: usize>(command: &[u8], words: &[&[u8]]) -> Result<[u32; N], String> {
-    let words = counted::<N>(command, words)?;
+fn numbers<const N: usize>(words: &[&[u8]]) -> Result<[u32; N], String> {
+    if words.len() != N {
+        return Err(wrong_count());
+    }
     let mut values = [0; N];
     for (value, word) in values.iter_mut().zip(words) {
         *value = number_of(word)?;
@@ -168,28 +154,17 @@ fn numbers<const N: usize>(command: &[u8], words: &[&[u8]]) -> Result<[u32; N], 
     Ok(values)
 }
 
-/// A word on one line, whatever its bytes: 64 of them, and `?` for one that is no plain sign.
+fn none(words: &[&[u8]]) -> Result<(), String> {
+    numbers::<0>(words).map(|_| ())
+}
+
+fn wrong_count() -> String {
+    "wrong number of words".to_string()
+}
+
+/// A word as one line of text, whatever its bytes.
 fn shown(word: &[u8]) -> String {
-    let plain = |&byte: &u8| {
-        if byte.is_ascii_graphic() {
-            byte as char
-        } else {
-            '?'
-        }
-    };
-    let text: String = word.iter().take(LONGEST_SHOWN).map(plain).collect();
-    if word.len() > LONGEST_SHOWN {
-        return text + "..";
-    }
-    text
-}
-
-fn unknown(word: &[u8]) -> String {
-    format!("unknown word: {}", shown(word))
-}
-
-fn no_start(command: &[u8]) -> String {
-    format!("no start before: {}", shown(command))
+    word.escape_ascii().to_string()
 }
 
 /// Why one command failed.
@@ -219,43 +194,43 @@ impl Replay {
         listener: &mut L,
     ) -> Result<(), Trouble> {
         match command {
-            b"start" => self.start(numbers(command, words)?, out, listener)?,
-            b"rom" => self.lend(counted(command, words)?)?,
+            b"start" => self.start(numbers(words)?, out, listener)?,
+            b"rom" => self.lend(words)?,
             b"6846" => {
-                let event = numbers::<3>(command, words)?;
-                self.started(command)?;
-                self.list_6846.add("6846", &event)?;
+                self.started()?;
+                self.list_6846.add(&numbers::<3>(words)?)?;
             }
             b"6840" => {
-                let event = numbers::<3>(command, words)?;
-                self.started(command)?;
-                self.list_6840.add("6840", &event)?;
+                self.started()?;
+                self.list_6840.add(&numbers::<3>(words)?)?;
             }
-            b"move" => self.step(command, counted(command, words)?, out, listener)?,
+            b"move" => self.step(words, out, listener)?,
             b"report" => {
-                counted::<0>(command, words)?;
-                let (number, levels) = self.started(command)?.report();
+                none(words)?;
+                let (number, levels) = self.started()?.report();
                 listener.reported(number);
                 writeln!(out, "report {number} {}", level_text(levels))?;
             }
             b"stamps" => {
-                counted::<0>(command, words)?;
-                let (s6846, s6840, waiting) = self.started(command)?.stamps();
+                none(words)?;
+                let (s6846, s6840, waiting) = self.started()?.stamps();
                 writeln!(out, "stamps {s6846} {s6840} {waiting}")?;
             }
             b"answers" => {
-                counted::<0>(command, words)?;
-                self.started(command)?;
+                none(words)?;
+                self.started()?;
                 write_answers(out, "6846", &self.list_6846.answers)?;
                 write_answers(out, "6840", &self.list_6840.answers)?;
             }
-            _ => return Err(unknown(command).into()),
+            _ => return Err(format!("unknown word `{}`", shown(command)).into()),
         }
         Ok(())
     }
 
-    fn started(&mut self, command: &[u8]) -> Result<&mut Board, String> {
-        self.board.as_mut().ok_or_else(|| no_start(command))
+    fn started(&mut self) -> Result<&mut Board, String> {
+        self.board
+            .as_mut()
+            .ok_or_else(|| "no start before this line".to_string())
     }
 
     /// Starts a board and empties both lists; a refused start leaves the fixed board and goes on.
@@ -274,13 +249,19 @@ impl Replay {
         writeln!(out, "start {number}")
     }
 
-    fn lend(&mut self, [path]: &[&[u8]; 1]) -> Result<(), String> {
+    fn lend(&mut self, words: &[&[u8]]) -> Result<(), String> {
+        let path = match words {
+            [path] => path,
+            _ => return Err(wrong_count()),
+        };
+        let path = std::str::from_utf8(path)
+            .map_err(|_| format!("cannot read `{}`: not a name", shown(path)))?;
         let mut rom = Vec::new();
-        File::open(OsStr::from_bytes(path))
+        File::open(path)
             .and_then(|file| file.take(LONGEST_ROM as u64 + 1).read_to_end(&mut rom))
-            .map_err(|_| format!("cannot be read: {}", shown(path)))?;
+            .map_err(|error| format!("cannot read `{path}`: {error}"))?;
         if rom.len() > LONGEST_ROM {
-            return Err(format!("more than {LONGEST_ROM} bytes: {}", shown(path)));
+            return Err(format!("`{path}` is longer than {LONGEST_ROM} bytes"));
         }
         self.rom = rom;
         Ok(())
@@ -288,31 +269,36 @@ impl Replay {
 
     fn step<L: Listen>(
         &mut self,
-        command: &[u8],
-        [chip, cycles]: &[&[u8]; 2],
+        words: &[&[u8]],
         out: &mut impl Write,
         listener: &mut L,
     ) -> Result<(), Trouble> {
-        let is_6840 = match *chip {
-            b"6846" => false,
-            b"6840" => true,
-            _ => return Err(unknown(chip).into()),
+        let (chip, cycles) = match words {
+            [chip, cycles] => (chip, cycles),
+            _ => return Err(wrong_count().into()),
         };
         let cycles = number_of(cycles)?;
         let board = match self.board.as_mut() {
             Some(board) => board,
-            None => return Err(no_start(command).into()),
+            None => return Err("no start before this line".to_string().into()),
         };
-        let (number, count) = if is_6840 {
-            let list = &mut self.list_6840;
-            board.move_6840_watched(&list.words, &mut list.answers, cycles, listener)
-        } else {
-            let list = &mut self.list_6846;
-            board.move_6846_watched(&self.rom, &list.words, &mut list.answers, cycles, listener)
+        let (number, count) = match *chip {
+            b"6846" => {
+                let list = &mut self.list_6846;
+                board.move_6846_watched(&self.rom, &list.words, &mut list.answers, cycles, listener)
+            }
+            b"6840" => {
+                let list = &mut self.list_6840;
+                board.move_6840_watched(&list.words, &mut list.answers, cycles, listener)
+            }
+            _ => return Err(format!("unknown word `{}`", shown(chip)).into()),
         };
-        listener.moved(is_6840, number, count, board);
-        let name = if is_6840 { "6840" } else { "6846" };
-        writeln!(out, "{name} {number} {count}")?;
+        listener.moved(*chip == b"6840", number, count, board);
+        writeln!(
+            out,
+            "{} {number} {count}",
+            if *chip == b"6840" { "6840" } else { "6846" }
+        )?;
         Ok(())
     }
 }

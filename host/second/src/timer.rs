@@ -316,15 +316,11 @@ impl Timer {
         }
     }
 
-    /// What holds in every cycle: a divider that is off stands at 0, intervals are low, and a timer in
-    /// internal reset has its counter equal to its latch and everything clear.
-    #[inline]
+    /// What holds at the end of a cycle with a write: a divider that is off stands at 0, and a timer
+    /// in internal reset has its counter equal to its latch and everything clear.
     pub fn settle(&mut self, place: Place, held: bool) {
         if !self.divides(place) {
             self.divider = 0;
-        }
-        if self.mode() & mode::INTERVAL != 0 {
-            self.level = false;
         }
         if held {
             self.initialise();

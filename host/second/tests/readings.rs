@@ -2,7 +2,7 @@
 
 mod common;
 use common::*;
-use second::{Board, Chip6840};
+use second::Board;
 
 const OUT: u32 = 0x82;
 const OUT_IRQ: u32 = 0xc2;
@@ -608,68 +608,6 @@ fn records_outside_their_ranges() {
     assert_eq!(board.report().0, 8);
     board.stamp_6840 = 65_537;
     assert_eq!(board.report().0, 9);
-}
-
-#[test]
-fn a_record_that_no_cycle_left_is_held_in_its_first_cycle() {
-    // PCR7=1: a read of that cycle finds the port clear, and the pins.
-    for (register, expect) in [(0, 0), (2, 0), (3, 0x5c)] {
-        let mut bench = Bench::new(0, 0);
-        let port = &mut bench.board.chip_6846.port;
-        (port.ddr, port.pdr, port.capture) = (0xf0, 0xaa, 0x12);
-        (port.flag_1, port.armed_1, port.flag_2, port.captured) = (true, true, true, true);
-        bench.levels_6846 = ALL_6846 & !P | 0x5c;
-        assert_eq!(bench.a6846(read_6846(register)), expect);
-    }
-    // PCR2=0 releases the capture before the read.
-    let mut bench = port(0);
-    let port = &mut bench.board.chip_6846.port;
-    (port.captured, port.capture) = (true, 0x12);
-    bench.levels_6846 = ALL_6846 & !P | 0x5c;
-    assert_eq!(bench.a6846(read_6846(3)), 0x5c);
-    assert_eq!(bench.board.chip_6846.port.capture, 0);
-
-    // Internal reset, and dividers that are off.
-    let mut bench = Bench::new(0, 0);
-    for timer in &mut bench.board.chip_6840.timers {
-        (timer.counter, timer.divider, timer.flag, timer.running) = (9, 5, true, true);
-    }
-    assert_eq!(bench.a6840(read_6840(1)), 0);
-    assert_eq!(bench.board.chip_6840, Chip6840::new());
-    bench.release(2, 0);
-    bench.board.chip_6840.timers[1].divider = 3;
-    bench.both(1);
-    assert_eq!(bench.board.chip_6840.timers[1].divider, 0);
-}
-
-#[test]
-fn an_interval_that_was_high_falls_in_the_first_cycle() {
-    for which in TIMERS {
-        let mut bench = Bench::timer(which, 3, OUT | M101);
-        match which {
-            0 => bench.board.chip_6846.timer.level = true,
-            _ => bench.board.chip_6840.timers[which as usize - 1].level = true,
-        }
-        assert!(bench.pin(which));
-        bench.both(1);
-        assert!(!bench.pin(which));
-    }
-    // The fall is a change of CTO: with 64 waiting the cycle is not done, and the level stays.
-    let mut bench = Bench::new(1, 0);
-    let timer = &mut bench.board.chip_6846.timer;
-    (timer.control, timer.level) = ((OUT | M101) as u8, true);
-    let mut full = bench.board.clone();
-    assert_eq!(bench.go_6846(1), (0, 1));
-    assert_eq!(
-        (bench.board.book.waiting, bench.board.book.change(0)),
-        (1, 1)
-    );
-    full.stamp_6846 = 64;
-    full.book.waiting = 64;
-    full.book.cycles = std::array::from_fn(|i| i as u32 + 1);
-    let before = full.clone();
-    assert_eq!(full.move_6846(&bench.rom, &[], &mut [], 2), (7, 0));
-    assert_eq!(full, before);
 }
 
 #[test]

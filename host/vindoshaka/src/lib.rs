@@ -139,8 +139,7 @@ impl Board {
         }
     }
 
-    /// A board that was kept as its record; one outside its ranges is refused by every call with number 9. A record that is made
-    /// out of bytes has each `bool` checked before, see [`raw::Board`].
+    /// A board that was kept as its record; one outside its ranges is refused by every call with number 9.
     pub fn from_record(record: raw::Board) -> Board {
         Board { record }
     }

@@ -1,7 +1,4 @@
 //! The record and the calls as the library has them: as `vindoshaka.h` has them, field by field.
-//!
-//! No pointer may be null, also where its length is 0 (a slice's never is); each is aligned, and good for as many elements as
-//! its length says; `board` and `answers` overlap nothing else that the call is lent.
 
 /// One programmable timer.
 #[repr(C)]
@@ -77,8 +74,7 @@ pub struct Ends {
     pub waiting: u32,
 }
 
-/// The whole board. Any values of these types are safe to pass: a record outside its ranges is answered by number 9. That a
-/// `bool` is the byte 0 or 1 is Rust's own rule: who makes a record out of bytes, from a file or a net, checks them first.
+/// The whole board. Any values are safe to pass: a record outside its ranges is answered by number 9.
 #[repr(C)]
 #[derive(Clone, Copy, Debug, PartialEq, Eq)]
 pub struct Board {

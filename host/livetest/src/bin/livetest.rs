@@ -26,8 +26,8 @@ fn main() {
 
     let tally = arbitrary::run(seed, calls);
     println!(
-        "arbitrary: {} calls twice, numbers 0 to 9 came {:?} times and were compared {:?} times: {} % of those that went on, {:?} of them from records that no cycle leaves, by kind",
-        tally.calls(), tally.all, tally.compared, tally.percent_compared(), tally.kinds
+        "arbitrary: {} calls twice, numbers 0 to 9 came {:?} times; {} as the second emulator, {} not compared: they went on from a record that no cycle leaves",
+        tally.calls, tally.numbers, tally.compared, tally.skipped
     );
     if calls >= 1_000_000 {
         tally.check();

@@ -1,8 +1,8 @@
-//! `coverage FILE`: replays a run file and prints how often it reached what is listed here, one line per group; exits with 1 where
-//! something was never reached. Numbers 3, 4 and 9 are not listed, as no run file can ask for them.
+//! `coverage FILE`: replays a run file and prints what it reached, one line per group.
 
 use second::runfile::{replay, Listen, Stop};
 use second::{Board, Place, Watch};
+use std::fmt::Write as _;
 use std::io::Write as _;
 use std::process::ExitCode;
 
@@ -58,8 +58,7 @@ struct Seen {
     a6: [u64; 3],
     extra: [u64; 5],
     codes: [u64; 16],
-    /// Moves that ended at the longest lead.
-    longest_lead: [u64; 2],
+    longest_lead: [i32; 2],
 }
 
 fn index(place: Place) -> usize {
@@ -184,7 +183,7 @@ impl Listen for Seen {
         self.stops[chip][number as usize] += 1;
         self.cycles[chip] += count as u64;
         let lead = if is_6840 { -board.lead() } else { board.lead() };
-        self.longest_lead[chip] += (lead == 65_536) as u64;
+        self.longest_lead[chip] = self.longest_lead[chip].max(lead);
     }
 
     fn reported(&mut self, number: u32) {
@@ -192,161 +191,173 @@ impl Listen for Seen {
     }
 }
 
-/// What is counted together, a name and a count each.
-struct Group {
-    name: String,
-    counts: Vec<(String, u64)>,
+/// The counts with a name each.
+fn named<'n>(names: impl IntoIterator<Item = &'n str>, counts: &[u64]) -> String {
+    let mut line = String::new();
+    for (name, count) in names.into_iter().zip(counts) {
+        write!(line, " {name}={count}").unwrap();
+    }
+    line
 }
 
-impl Group {
-    fn new<'n>(name: &str, names: impl IntoIterator<Item = &'n str>, counts: &[u64]) -> Group {
-        let names = names.into_iter().map(str::to_string);
-        Group {
-            name: name.to_string(),
-            counts: names.zip(counts.iter().copied()).collect(),
+fn by_mode(counts: &[u64; 8], wanted: impl Fn(usize) -> bool) -> String {
+    let mut line = String::new();
+    for (at, name) in MODES {
+        if wanted(at) {
+            write!(line, " {name}={}", counts[at]).unwrap();
         }
     }
-
-    fn by_mode(name: String, counts: &[u64; 8], wanted: impl Fn(usize) -> bool) -> Group {
-        let modes = MODES.iter().filter(|(at, _)| wanted(*at));
-        Group {
-            name,
-            counts: modes
-                .map(|&(at, name)| (name.to_string(), counts[at]))
-                .collect(),
-        }
-    }
-
-    fn line(&self) -> String {
-        let counts = self
-            .counts
-            .iter()
-            .map(|(name, count)| format!(" {name}={count}"));
-        format!("{}{}\n", self.name, counts.collect::<String>())
-    }
-
-    /// What was never reached.
-    fn missing(&self) -> impl Iterator<Item = String> + '_ {
-        let never = self.counts.iter().filter(|(_, count)| *count == 0);
-        never.map(move |(name, _)| format!("never reached: {} {name}\n", self.name))
-    }
+    line
 }
 
 impl Seen {
-    /// All that a file of fresh runs must reach.
-    fn groups(&self) -> Vec<Group> {
-        let [cycles_6846, cycles_6840] = self.cycles;
-        let mut groups = vec![Group::new(
-            "all runs",
-            ["starts", "6846 cycles", "6840 cycles"],
-            &[self.starts, cycles_6846, cycles_6840],
-        )];
+    /// One line per group.
+    fn lines(&self) -> String {
+        let mut out = String::new();
+        self.write(&mut out).expect("a string takes all");
+        out
+    }
+
+    fn write(&self, out: &mut String) -> std::fmt::Result {
+        let any = |_: usize| true;
+        let interval = |mode: usize| mode & 1 == 1;
+        let cycles = self.cycles[0] + self.cycles[1];
+        writeln!(
+            out,
+            "starts {} cycles 6846={} 6840={} a run={}",
+            self.starts,
+            self.cycles[0],
+            self.cycles[1],
+            cycles / self.starts.max(1)
+        )?;
         for (at, name) in ["6846 timer", "6840 timer 1", "6840 timer 2", "6840 timer 3"]
             .iter()
             .enumerate()
         {
-            for (what, counts, wanted) in [
-                ("clocks", &self.clocks, 0),
-                ("time-outs", &self.time_outs, 0),
-                ("gate starts", &self.gate_starts, 0),
-                // Only an interval mode has bit 3.
-                ("interval flags", &self.interval_flags, 1),
-            ] {
-                let name = format!("{name} {what} in mode");
-                groups.push(Group::by_mode(name, &counts[at], |mode| {
-                    mode & wanted == wanted
-                }));
-            }
+            writeln!(
+                out,
+                "{name} clocks in mode{}",
+                by_mode(&self.clocks[at], any)
+            )?;
+            writeln!(
+                out,
+                "{name} time-outs in mode{}",
+                by_mode(&self.time_outs[at], any)
+            )?;
+            writeln!(
+                out,
+                "{name} gate starts in mode{}",
+                by_mode(&self.gate_starts[at], any)
+            )?;
+            writeln!(
+                out,
+                "{name} interval flags{}",
+                by_mode(&self.interval_flags[at], interval)
+            )?;
         }
-        let chips = ["6846", "6840"];
-        let moves = |chip: usize, numbers: &[usize]| -> Vec<u64> {
-            numbers
-                .iter()
-                .map(|&number| self.stops[chip][number])
-                .collect()
-        };
-        let numbers = [0, 1, 2, 5, 6, 7, 8].map(|number| self.numbers[number]);
-        groups.extend([
-            Group::new("external clocks", ["6846", "1", "2", "3"], &self.external),
-            Group::new("dual time-outs", ["1", "2", "3"], &self.dual[1..]),
-            Group::new(
-                "divided time-outs",
-                ["6846", "3"],
-                &[self.divided[0], self.divided[3]],
-            ),
-            Group::new(
-                "6846 reads",
-                [
-                    "status0", "PCR", "DDR", "PDR", "status4", "TCR", "MSB", "LSB",
-                ],
-                &self.reads_6846,
-            ),
-            Group::new(
-                "6846 writes",
+        let timers = ["6846", "1", "2", "3"];
+        writeln!(out, "external clocks{}", named(timers, &self.external))?;
+        writeln!(
+            out,
+            "dual time-outs{}",
+            named(["1", "2", "3"], &self.dual[1..])
+        )?;
+        writeln!(
+            out,
+            "divided time-outs 6846={} 3={}",
+            self.divided[0], self.divided[3]
+        )?;
+        writeln!(out, "cascaded time-outs {}", self.time_outs[0][4])?;
+        writeln!(
+            out,
+            "6846 reads{}",
+            named(
+                ["status0", "PCR", "DDR", "PDR", "status4", "TCR", "MSB", "LSB"],
+                &self.reads_6846
+            )
+        )?;
+        writeln!(
+            out,
+            "6846 writes{}",
+            named(
                 ["status0", "PCR", "DDR", "PDR", "status4", "TCR", "MSB", "W"],
-                &self.writes_6846,
-            ),
-            Group::new(
-                "6846 beside registers",
-                ["ROM", "missed"],
-                &[self.rom_reads, self.misses],
-            ),
-            Group::new(
-                "6840 reads",
-                [
-                    "0", "status", "MSB1", "LSB1", "MSB2", "LSB2", "MSB3", "LSB3",
-                ],
-                &self.reads_6840,
-            ),
-            Group::new(
-                "6840 writes",
-                [
-                    "CR3", "CR2", "MSB1", "W1", "MSB2", "W2", "MSB3", "W3", "CR1",
-                ],
-                &self.writes_6840,
-            ),
-            Group::new("numbers", ["0", "1", "2", "5", "6", "7", "8"], &numbers),
-            Group::new(
-                "6846 moves",
-                ["0", "2", "5", "6", "7"],
-                &moves(0, &[0, 2, 5, 6, 7]),
-            ),
-            Group::new("6840 moves", ["0", "5", "6"], &moves(1, &[0, 5, 6])),
-            Group::new("moves to the longest lead", chips, &self.longest_lead),
-            Group::new(
-                "book",
-                ["changes", "filled"],
-                &[self.booked, self.book_full],
-            ),
-            Group::new("stamp wraps", chips, &self.wraps),
-            Group::new(
-                "captures",
-                ["made", "read"],
-                &[self.captures, self.capture_reads],
-            ),
-            Group::new("CP2 out 0,0", ["low", "high"], &self.cp2[0]),
-            Group::new("CP2 out 0,1", ["low", "high"], &self.cp2[1]),
-            Group::new("CP2 out 1,0", ["low"], &self.cp2[2][..1]),
-            Group::new("CP2 out 1,1", ["high"], &self.cp2[3][1..]),
-            Group::new("armed clears", chips, &self.armed_clears),
-            Group::new("internal reset set", chips, &self.held),
-            Group::new("internal reset released", chips, &self.released),
-            Group::new("RESET cycles", chips, &self.reset_cycles),
-            Group::new("RESET accesses", chips, &self.reset_accesses),
-            Group::new("wired to", ["none", "C1", "C2", "C3"], &self.wires),
-            Group::new("A6 option", ["0", "1", "either"], &self.a6),
-            Group::new("extra line", ["none", "7", "8", "9", "10"], &self.extra),
-        ]);
-        for rom in 0..4 {
-            let others = (0..4).filter(|&io| io != rom);
-            groups.push(Group {
-                name: format!("ROM code {rom} with I/O code"),
-                counts: others
-                    .map(|io| (io.to_string(), self.codes[rom * 4 + io]))
-                    .collect(),
-            });
+                &self.writes_6846
+            )
+        )?;
+        writeln!(
+            out,
+            "6846 ROM reads {} misses {}",
+            self.rom_reads, self.misses
+        )?;
+        writeln!(
+            out,
+            "6840 reads{}",
+            named(
+                ["0", "status", "MSB1", "LSB1", "MSB2", "LSB2", "MSB3", "LSB3"],
+                &self.reads_6840
+            )
+        )?;
+        writeln!(
+            out,
+            "6840 writes{}",
+            named(
+                ["CR3", "CR2", "MSB1", "W1", "MSB2", "W2", "MSB3", "W3", "CR1"],
+                &self.writes_6840
+            )
+        )?;
+        writeln!(
+            out,
+            "numbers{}",
+            named(
+                ["0", "1", "2", "3", "4", "5", "6", "7", "8", "9"],
+                &self.numbers
+            )
+        )?;
+        for (chip, name) in ["6846", "6840"].iter().enumerate() {
+            let stops = &self.stops[chip];
+            writeln!(
+                out,
+                "{name} moves 0={} 2={} 5={} 6={} 7={} longest lead {}",
+                stops[0], stops[2], stops[5], stops[6], stops[7], self.longest_lead[chip]
+            )?;
         }
-        groups
+        writeln!(out, "book changes {} at 64 {}", self.booked, self.book_full)?;
+        let chips = ["6846", "6840"];
+        writeln!(out, "stamp wraps{}", named(chips, &self.wraps))?;
+        writeln!(
+            out,
+            "captures {} read {}",
+            self.captures, self.capture_reads
+        )?;
+        for (setting, name) in ["0,0", "0,1", "1,0", "1,1"].iter().enumerate() {
+            writeln!(
+                out,
+                "CP2 out {name}{}",
+                named(["low", "high"], &self.cp2[setting])
+            )?;
+        }
+        writeln!(out, "armed clears{}", named(chips, &self.armed_clears))?;
+        writeln!(out, "internal reset set{}", named(chips, &self.held))?;
+        writeln!(
+            out,
+            "internal reset released{}",
+            named(chips, &self.released)
+        )?;
+        writeln!(out, "RESET cycles{}", named(chips, &self.reset_cycles))?;
+        writeln!(out, "RESET accesses{}", named(chips, &self.reset_accesses))?;
+        writeln!(
+            out,
+            "wired to{}",
+            named(["none", "C1", "C2", "C3"], &self.wires)
+        )?;
+        writeln!(out, "A6 option{}", named(["0", "1", "either"], &self.a6))?;
+        writeln!(
+            out,
+            "extra line{}",
+            named(["none", "7", "8", "9", "10"], &self.extra)
+        )?;
+        let pairs = self.codes.iter().filter(|&&count| count > 0).count();
+        writeln!(out, "code pairs {pairs} of 12")
     }
 }
 
@@ -368,14 +379,10 @@ fn main() -> ExitCode {
     };
     let mut seen = Seen::default();
     let result = replay(&text, &mut std::io::sink(), &mut seen);
-    let groups = seen.groups();
-    let lines: String = groups.iter().map(Group::line).collect();
-    let missing: String = groups.iter().flat_map(Group::missing).collect();
     // A reader that leaves early is no fault.
-    let _ = std::io::stdout().write_all((lines + &missing).as_bytes());
+    let _ = std::io::stdout().write_all(seen.lines().as_bytes());
     match result {
-        Ok(()) if missing.is_empty() => ExitCode::SUCCESS,
-        Ok(()) => ExitCode::FAILURE,
+        Ok(()) => ExitCode::SUCCESS,
         Err(Stop::Line(line, cause)) => {
             eprintln!("line {line}: {cause}");
             ExitCode::FAILURE
