@@ -55,6 +55,7 @@ pub struct Run {
     pub span: Span,
     pub line: u32,
     pub over: bool,
+    pub wrong: bool,
 }
 
 impl State {
@@ -357,6 +358,7 @@ impl Run {
             span: span,
             line: self.line,
             over: true,
+            wrong: true,
         }
     }
 
@@ -370,6 +372,7 @@ impl Run {
             span: span,
             line: self.line.wrapping_add(1),
             over: p.broken,
+            wrong: false,
         }
     }
 
@@ -389,6 +392,7 @@ impl Run {
             span: span,
             line: self.line,
             over: span.failed,
+            wrong: span.failed,
         }
     }
 
@@ -405,6 +409,7 @@ impl Run {
             },
             line: 1,
             over: false,
+            wrong: false,
         }
     }
 
@@ -477,7 +482,7 @@ fn replay(
     run
 }
 
-// The status is 141 where whoever reads the output wants no more, as of a program that the system ends for it.
+// 1 where the file was not replayed to its end; 141 where whoever reads wants no more, as of a program that the system ends for it.
 fn replay_file(rt: &HostRuntime, file: &mut File, path: &[u8]) -> ExitCode {
     let mut text = [0u8; 65536];
     let mut paper = [0u8; 65536];
@@ -500,6 +505,10 @@ fn replay_file(rt: &HostRuntime, file: &mut File, path: &[u8]) -> ExitCode {
     }
     if p.broken {
         say(rt, b"cannot write the output\n");
+        return ExitCode::FAILURE;
+    }
+    if run.wrong {
+        return ExitCode::FAILURE;
     }
     ExitCode::SUCCESS
 }
@@ -518,7 +527,7 @@ fn main(rt: HostRuntime) -> ExitCode {
         Ok(mut file) => replay_file(&rt, &mut file, &path[..length]),
         Err(error) => {
             fail(&rt, &path[..length], error);
-            ExitCode::SUCCESS
+            ExitCode::FAILURE
         }
     }
 }
