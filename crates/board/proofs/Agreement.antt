@@ -21,11 +21,13 @@ use Rattle.wire.proofs.Progress.{progress, meeting}
 use Rattle.mc6846.specs.Cycle.{cto_of}
 use Rattle.mc6846.proofs.Laws as combo
 use Rattle.mc6840.proofs.Laws as ptm
-use Rattle.outcomes.specs.declared.Outcome.TheVariants.{Done}
+use Rattle.outcomes.specs.Numbers.{Done}
+use Rattle.lists.specs.Moves.{world}
 use Rattle.board.specs.Record.{wired_by, fresh_of, start_of, options_fit, book_fits, in_ranges}
-use Rattle.board.specs.Calls.{list_fits, given6846, begun6846, put6846, after6846, moved6846, move6846, given6840, begun6840, put6840, after6840, moved6840, move6840}
+use Rattle.board.specs.Calls.{list_fits, list_checked, unless, given6846, begun6846, put6846, after6846, moved6846, checked6846, move6846, given6840, begun6840, put6840, after6840, moved6840, checked6840, move6840}
 use Rattle.mover6846.specs.Cycle as c6846
 use Rattle.mover6840.specs.Cycle as c6840
+use Rattle.mover6840.proofs.Steps.{places_stay}
 use Rattle.board.specs.Agreement.{Setup, Chip, the6846, the6840, Call, Host, Returned, Side6846, Side6840, select_of, fresh, called_on, after, together, lockstep, stamp_at, NoneBad, Meet, Agreement, Does, Progress, Meeting}
 use Rattle.board.proofs.Pair.{pair, held, side6846, side6840, Keeps}
 use Rattle.board.proofs.Sim6846 as s6846
@@ -71,7 +73,7 @@ module _ (S : Setup) where
 
     -- so that a call does its cycles
     abbrev world6846 : c6846.World
-    world6846 = c6846.world (begun6846 h.board) h.answers6846 h.board.places Done
+    world6846 = world (begun6846 h.board) h.answers6846 h.board.places Done
 
     given-is6846 : given6846 h.board ≡ record { select = select_of S; wired = wired_by S.wire; other = h.board.stamp6840 }
     unfolding given6846
@@ -81,7 +83,7 @@ module _ (S : Setup) where
     ran6846 n = c6846.run_of (record { select = select_of S; wired = wired_by S.wire; other = h.board.stamp6840 }) S.image S.events6846 n world6846
 
     moves6846 : (n : ℕ) → move6846 S.image S.events6846 n h.board h.answers6846 ≡ after6846 h.board (ran6846 n)
-    unfolding move6846 moved6846
+    unfolding move6846 unless checked6846 list_checked moved6846
     moves6846 n =
         rw (
           in_ranges_lem,
@@ -92,17 +94,17 @@ module _ (S : Setup) where
         )
 
     abbrev world6840 : c6840.World
-    world6840 = c6840.world (begun6840 h.board) h.answers6840 Done
+    world6840 = world (begun6840 h.board) h.answers6840 h.board.places Done
 
     given-is6840 : given6840 h.board ≡ record { wire = S.wire; wired = wired_by S.wire; other = h.board.stamp6846; cto = cto_of h.board.combo }
     unfolding given6840
     given-is6840 = rw k.wire
 
     abbrev ran6840 : ℕ → c6840.World
-    ran6840 n = c6840.run_of (record { wire = S.wire; wired = wired_by S.wire; other = h.board.stamp6846; cto = cto_of h.board.combo }) h.board.places S.events6840 n world6840
+    ran6840 n = c6840.run_of (record { wire = S.wire; wired = wired_by S.wire; other = h.board.stamp6846; cto = cto_of h.board.combo }) S.events6840 n world6840
 
     moves6840 : (n : ℕ) → move6840 S.events6840 n h.board h.answers6840 ≡ after6840 h.board (ran6840 n)
-    unfolding move6840 moved6840
+    unfolding move6840 unless checked6840 list_checked moved6840
     moves6840 n =
         rw (
           in_ranges_lem,
@@ -138,9 +140,10 @@ module _ (S : Setup) where
     calls6840 : (n : ℕ) → Calls (w.called (pair S) w.listener n (held S h)) (called_on S the6840 n h)
     unfolding called_on after6840 put6840 begun6840
     calls6840 n =
-        let s = s6840.run_sim S h.board.stamp6846 (side6846 S h) h.board.places n world6840 refl (record { chip = k.ptm; done = k.done40; answers = k.answers40 }) in
+        let s = s6840.run_sim S h.board.stamp6846 (side6846 S h) n world6840 refl (record { chip = k.ptm; done = k.done40; answers = k.answers40; places = k.places }) in
+        let p = places_stay (record { wire = S.wire; wired = wired_by S.wire; other = h.board.stamp6846; cto = cto_of h.board.combo }) S.events6840 n world6840 in
         rw (moves6840 n) (
-          s.0,
+          rw p at s.0,
           s.1,
           record {
             select = k.select;

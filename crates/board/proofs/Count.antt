@@ -1,24 +1,23 @@
 -- What a move keeps and what it counts, whatever the record and whatever stops it.
-use Prim.Native.Nat.{ℕ, ◌/◌, ◌^◌, ◌<◌}
+use Prim.Native.Nat.{ℕ, ◌^◌, ◌<◌}
 use mathlib.Core.Path.{◌≡◌, refl, ap, sym, ◌∙◌}
-use mathlib.Core.Bool.{Bool, true, false}
 use mathlib.Core.List.{List}
 use native.Mathlib.Omega.{arith}
-use lib.ListN.{length}
-use lib.Dec.{leb, eqb}
+use Rattle.std.specs.Prelude.{Ok, Err}
 use Rattle.wire.specs.Stamp.{gap}
 use Rattle.wire.proofs.Wrap.{gap-count}
 use Rattle.lists.proofs.Run.{run_none}
 use Rattle.lists.proofs.Count.{Kept, kept}
-use Rattle.outcomes.specs.declared.Outcome.TheVariants.{Done}
+use Rattle.outcomes.specs.Numbers.{Outcome, Done}
+use Rattle.lists.specs.Moves.{world, going}
+use Rattle.lists.proofs.Stays.{Same, stamp_in, stays}
 use Rattle.outcomes.proofs.Laws.{goes_done, going_done}
 use Rattle.mover6846.specs.Cycle as c6846
 use Rattle.mover6846.proofs.Steps as s6846
 use Rattle.mover6840.specs.Cycle as c6840
 use Rattle.mover6840.proofs.Steps as s6840
 use Rattle.board.specs.declared.Board.{Board}
-use Rattle.board.specs.Record.{in_ranges}
-use Rattle.board.specs.Calls.{Result, refused, list_fits, given6846, begun6846, put6846, after6846, moved6846, move6846, given6840, begun6840, put6840, after6840, moved6840, move6840}
+use Rattle.board.specs.Calls.{Result, refused, unless, given6846, begun6846, put6846, after6846, moved6846, checked6846, move6846, given6840, begun6840, put6840, after6840, moved6840, checked6840, move6840}
 
 -- one move is another, all of it done
 pub record Keeps (r s : Result) : Type 0 where
@@ -29,11 +28,11 @@ pub record Keeps (r s : Result) : Type 0 where
 
 module _ (rom es : List ℕ) (n : ℕ) (b : Board) (xs : List ℕ) (f : b.stamp6846 < 2 ^ 32) (h : n < 2 ^ 32) where
   abbrev begun : c6846.World
-  begun = c6846.world (begun6846 b) xs b.places Done
+  begun = world (begun6846 b) xs b.places Done
 
-  far6846 : Kept c6846.going (c6846.step_of (given6846 b) rom es) s6846.stamp_in s6846.Same n begun
+  far6846 : Kept going (c6846.step_of (given6846 b) rom es) stamp_in Same n begun
   unfolding begun6846
-  far6846 = kept c6846.going (c6846.step_of (given6846 b) rom es) s6846.stamp_in s6846.Same (λ w. s6846.stays w w.outcome) (s6846.steps (given6846 b) rom es) n begun goes_done f
+  far6846 = kept going (c6846.step_of (given6846 b) rom es) stamp_in Same (λ w. stays w w.outcome) (s6846.steps (given6846 b) rom es) n begun goes_done f
 
   counted6846 : (moved6846 rom es n b xs).moved.count ≡ far6846.count
   unfolding moved6846 after6846 begun6846
@@ -59,31 +58,28 @@ module _ (rom es : List ℕ) (n : ℕ) (b : Board) (xs : List ℕ) (f : b.stamp6
   -- A move of no cycle changes nothing.
   none_6846 : (moved6846 rom es 0 b xs).moved.board ≡ b
   unfolding moved6846 after6846 begun6846 put6846
-  none_6846 = rw (run_none c6846.going (c6846.step_of (given6846 b) rom es) begun)
+  none_6846 = rw (run_none going (c6846.step_of (given6846 b) rom es) begun)
 
-  still_6846 : (p q r u : Bool) → in_ranges b ≡ p → eqb (length rom) 2048 ≡ q → list_fits (length es) b.done6846 ≡ r → leb (length es / 3) (length xs) ≡ u →
-      (move6846 rom es n b xs).moved.count ≡ 0 → (move6846 rom es n b xs).moved.board ≡ b
-  unfolding move6846 refused
-  still_6846 true true true true e f g k z =
-      let c : (moved6846 rom es n b xs).moved.count ≡ 0 = rw (e, f, g, k) at z in
-      rw (e, f, g, k) (keeps_6846.board ∙ ap (λ c. (moved6846 rom es c b xs).moved.board) c ∙ none_6846)
-  still_6846 true true true false e f g k z = rw (e, f, g, k)
-  still_6846 true true false u e f g k z = rw (e, f, g)
-  still_6846 true false r u e f g k z = rw (e, f)
-  still_6846 false q r u e f g k z = rw e
+  pub none_moved_6846 : (moved6846 rom es n b xs).moved.count ≡ 0 → (moved6846 rom es n b xs).moved.board ≡ b
+  none_moved_6846 z = keeps_6846.board ∙ ap (λ c. (moved6846 rom es c b xs).moved.board) z ∙ none_6846
+
+  still_6846 : (o : Outcome) → checked6846 rom es b xs ≡ o → (move6846 rom es n b xs).moved.count ≡ 0 → (move6846 rom es n b xs).moved.board ≡ b
+  unfolding move6846 unless refused
+  still_6846 (Ok tt) e z = rw e (none_moved_6846 (rw e at z))
+  still_6846 (Err r) e z = rw e
 
   -- A call that counts no cycle leaves the board as given, for any record.
   pub none_counted_6846 : (move6846 rom es n b xs).moved.count ≡ 0 → (move6846 rom es n b xs).moved.board ≡ b
-  none_counted_6846 = still_6846 _ _ _ _ refl refl refl refl
+  none_counted_6846 = still_6846 _ refl
 
 -- The same of the 6840.
 module _ (es : List ℕ) (n : ℕ) (b : Board) (xs : List ℕ) (f : b.stamp6840 < 2 ^ 32) (h : n < 2 ^ 32) where
   abbrev ready : c6840.World
-  ready = c6840.world (begun6840 b) xs Done
+  ready = world (begun6840 b) xs b.places Done
 
-  far6840 : Kept c6840.going (c6840.step_of (given6840 b) b.places es) s6840.stamp_in s6840.Same n ready
+  far6840 : Kept going (c6840.step_of (given6840 b) es) stamp_in Same n ready
   unfolding begun6840
-  far6840 = kept c6840.going (c6840.step_of (given6840 b) b.places es) s6840.stamp_in s6840.Same (λ w. s6840.stays w w.outcome) (s6840.steps (given6840 b) b.places es) n ready goes_done f
+  far6840 = kept going (c6840.step_of (given6840 b) es) stamp_in Same (λ w. stays w w.outcome) (s6840.steps (given6840 b) es) n ready goes_done f
 
   counted6840 : (moved6840 es n b xs).moved.count ≡ far6840.count
   unfolding moved6840 after6840 begun6840
@@ -107,17 +103,15 @@ module _ (es : List ℕ) (n : ℕ) (b : Board) (xs : List ℕ) (f : b.stamp6840 
 
   none_6840 : (moved6840 es 0 b xs).moved.board ≡ b
   unfolding moved6840 after6840 begun6840 put6840
-  none_6840 = rw (run_none c6840.going (c6840.step_of (given6840 b) b.places es) ready)
+  none_6840 = rw (run_none going (c6840.step_of (given6840 b) es) ready)
 
-  still_6840 : (p r u : Bool) → in_ranges b ≡ p → list_fits (length es) b.done6840 ≡ r → leb (length es / 3) (length xs) ≡ u →
-      (move6840 es n b xs).moved.count ≡ 0 → (move6840 es n b xs).moved.board ≡ b
-  unfolding move6840 refused
-  still_6840 true true true e g k z =
-      let c : (moved6840 es n b xs).moved.count ≡ 0 = rw (e, g, k) at z in
-      rw (e, g, k) (keeps_6840.board ∙ ap (λ c. (moved6840 es c b xs).moved.board) c ∙ none_6840)
-  still_6840 true true false e g k z = rw (e, g, k)
-  still_6840 true false u e g k z = rw (e, g)
-  still_6840 false r u e g k z = rw e
+  pub none_moved_6840 : (moved6840 es n b xs).moved.count ≡ 0 → (moved6840 es n b xs).moved.board ≡ b
+  none_moved_6840 z = keeps_6840.board ∙ ap (λ c. (moved6840 es c b xs).moved.board) z ∙ none_6840
+
+  still_6840 : (o : Outcome) → checked6840 es b xs ≡ o → (move6840 es n b xs).moved.count ≡ 0 → (move6840 es n b xs).moved.board ≡ b
+  unfolding move6840 unless refused
+  still_6840 (Ok tt) e z = rw e (none_moved_6840 (rw e at z))
+  still_6840 (Err r) e z = rw e
 
   pub none_counted_6840 : (move6840 es n b xs).moved.count ≡ 0 → (move6840 es n b xs).moved.board ≡ b
-  none_counted_6840 = still_6840 _ _ _ refl refl refl
+  none_counted_6840 = still_6840 _ refl

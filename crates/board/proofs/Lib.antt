@@ -1,4 +1,4 @@
-pub mod Options
+pub mod Legal
 pub mod Table
 pub mod Pair
 pub mod Sim6846

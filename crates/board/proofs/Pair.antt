@@ -8,30 +8,25 @@ use Rattle.wire.specs.Pair as w
 use Rattle.wire.proofs.Model.{bad_is, waits_is, full_is}
 use Rattle.mc6846.specs.Cycle.{cto_of, in_range}
 use Rattle.mc6840.specs.Rules as ptm
-use Rattle.outcomes.specs.declared.Outcome.{Outcome}
-use Rattle.outcomes.specs.declared.Outcome.TheVariants as outcome
-use Rattle.outcomes.specs.Numbers.{number_of, goes}
-use Rattle.outcomes.proofs.Laws.{bad_stops, wait_stops, full_stops, bad-number, wait-number, full-number}
+use Rattle.std.specs.Prelude.{Err}
+use Rattle.outcomes.specs.declared.Refusal.{Refusal}
+use Rattle.outcomes.specs.declared.Refusal.TheVariants.{BadEvent, MustWait, BookFull}
+use Rattle.outcomes.specs.Numbers.{number_of}
+use Rattle.outcomes.proofs.Laws.{bad-number, wait-number, full-number}
 use Rattle.board.specs.Record.{wired_by}
 use Rattle.board.specs.Agreement.{Setup, Host, Side6846, Side6840, bad_next, select_of, by6846, next_of6846, by6840, next_of6840, lockstep}
 
--- the outcome of a stop, and its number
-unfoldable pub stop_of : w.Stop → Outcome
-stop_of w.bad = outcome.BadEvent
-stop_of w.waits = outcome.MustWait
-stop_of w.full = outcome.BookFull
+-- the refusal of a stop, and its number
+unfoldable pub stop_of : w.Stop → Refusal
+stop_of w.bad = BadEvent
+stop_of w.waits = MustWait
+stop_of w.full = BookFull
 
-pub stop-number : (s : w.Stop) → number_of (stop_of s) ≡ w.number_of s
+pub stop-number : (s : w.Stop) → number_of (Err (stop_of s)) ≡ w.number_of s
 unfolding stop_of
 stop-number w.bad = bad-number ∙ sym bad_is
 stop-number w.waits = wait-number ∙ sym waits_is
 stop-number w.full = full-number ∙ sym full_is
-
-pub stop_stops : (s : w.Stop) → goes (stop_of s) ≡ false
-unfolding stop_of
-stop_stops w.bad = bad_stops
-stop_stops w.waits = wait_stops
-stop_stops w.full = full_stops
 
 -- a change of the level on the wire is a change of CTO, with a wire
 pub turn_is : (wired before after : Bool) → xor (wired && before) (wired && after) ≡ (wired && not (beq before after))

@@ -12,23 +12,26 @@ use Rattle.wire.specs.Pair as w
 use Rattle.wire.proofs.Model.{level_is, driver-cycle, called_none, called_more, goes_done, goes_refused}
 use Rattle.wire.proofs.Ring.{waiting-length, noted-waits, noted-length}
 use Rattle.signals.specs.Words6846.{levels_of, access_of, bad_event}
-use Rattle.mc6846.specs.declared.Done.{Done as Ran}
+use Rattle.std.specs.Prelude.{Some, None, Err}
+use Rattle.signals.specs.declared.Done.{Done as Ran}
+use Rattle.signals.specs.Words.{place_of}
+use Rattle.mc6846.specs.declared.Combo.{Combo}
 use Rattle.mc6846.specs.Cycle.{cycle_of, cto_of, in_range}
 use Rattle.mc6846.proofs.Laws.{cycle_in_range}
 use Rattle.mover6846.specs.declared.Given6846.{Given6846}
-use Rattle.outcomes.specs.declared.Outcome.TheVariants.{Done, MustWait, BookFull}
-use Rattle.lists.specs.declared.Next.{Next}
-use Rattle.lists.specs.declared.Next.TheVariants.{Cycle, Bad}
-use Rattle.lists.specs.Events.{answered}
-use Rattle.outcomes.specs.Numbers.{number_of, goes}
-use Rattle.outcomes.proofs.Laws.{goes_done as goes-on-done, done-number}
+use Rattle.outcomes.specs.declared.Refusal.TheVariants.{MustWait, BookFull}
+use Rattle.lists.specs.declared.Cycle.{Cycle}
+use Rattle.lists.specs.Events.{Next, answered}
+use Rattle.lists.specs.Moves.{world, going}
+use Rattle.outcomes.specs.Numbers.{Done, number_of, goes}
+use Rattle.outcomes.proofs.Laws.{goes_done as goes-on-done, refusal_stops, done-number}
 use Rattle.board.specs.Record.{wired_by}
-use Rattle.mover6846.specs.Cycle.{World, world, changes, noted_if, next_by, step_of, going, run_of}
+use Rattle.mover6846.specs.Cycle.{World, changes, noted_if, next_by, step_of, run_of}
 use Rattle.mover6846.proofs.Steps.{step_is, next_bad, next_cycle, changes_is, noted_change, noted_none}
 use Rattle.board.specs.Agreement.{Setup, Side6846, Side6840, bad_next, select_of, by6846, next_of6846}
 use Rattle.lists.proofs.Run.{run_none, run_one, run-stopped}
 use Rattle.lists.proofs.Laws.{answered-length, Within, next_within}
-use Rattle.board.proofs.Pair.{stop_of, stop-number, stop_stops, turn_is, pair}
+use Rattle.board.proofs.Pair.{stop_of, stop-number, turn_is, pair}
 
 module _ (S : Setup) (other : ℕ) (y : Side6840) where
   abbrev given : Given6846
@@ -56,7 +59,7 @@ module _ (S : Setup) (other : ℕ) (y : Side6840) where
   -- what a step of the run comes to, beside a cycle of the driver
   abbrev Steps : w.Cycled (pair S) → World → World → Type 0
   Steps (w.done v) u t = (in_move t ≡ v) × (t.outcome ≡ Done) × Sound t
-  Steps (w.refused s) u t = t ≡ world u.run u.answers u.places (stop_of s)
+  Steps (w.refused s) u t = t ≡ world u.run u.answers u.places (Err (stop_of s))
 
   -- the driver's cycle, by the next event
   abbrev turned : Next → World → Bool
@@ -81,20 +84,20 @@ module _ (S : Setup) (other : ℕ) (y : Side6840) where
   cycle_by_lem u = driver-cycle (pair S) (in_move u)
 
   -- with the next event taken apart, and the cycle done by the chip
-  module _ (u : World) (o : u.outcome ≡ Done) (k : Sound u) (l a d : ℕ) (q : d ≤ length S.events6846 / 3) where
-    abbrev ran : Ran
-    ran = cycle_of (select_of S) S.image (levels_of l) (access_of a) u.run.chip
+  module _ (u : World) (o : u.outcome ≡ Done) (k : Sound u) (c : Cycle) (q : c.done ≤ length S.events6846 / 3) where
+    abbrev ran : Ran Combo
+    ran = cycle_of (select_of S) S.image (levels_of c.levels) (access_of c.access) u.run.chip
 
-    turned_is : turned (Cycle l a d) u ≡ changes given u.run.chip ran.chip
+    turned_is : turned (Some c) u ≡ changes given u.run.chip ran.chip
     unfolding by6846
     turned_is =
-        rw (level_is (pair S) (side u), level_is (pair S) (by6846 S (Cycle l a d) (side u)))
+        rw (level_is (pair S) (side u), level_is (pair S) (by6846 S (Some c) (side u)))
         (turn_is (wired_by S.wire) (cto_of u.run.chip) (cto_of ran.chip) ∙ sym (changes_is given u.run.chip ran.chip))
 
     -- the driver's board, whether its level turns or not
     abbrev driven_if : Bool → w.Board (pair S)
     driven_if t = record {
-      driver = by6846 S (Cycle l a d) (side u);
+      driver = by6846 S (Some c) (side u);
       listener = y;
       driver_stamp = next_stamp u.run.stamp;
       listener_stamp = other;
@@ -104,20 +107,20 @@ module _ (S : Setup) (other : ℕ) (y : Side6840) where
     -- the cycle done, with its book
     abbrev next : Book → World
     next b =
-        world (record { chip = ran.chip; levels = l; stamp = next_stamp u.run.stamp; done = d; ends = b.ends })
-        (answered u.answers u.run.done d ran.answer) b.places u.outcome
+        world (record { chip = ran.chip; levels = c.levels; stamp = next_stamp u.run.stamp; done = c.done; ends = b.ends })
+        (answered u.answers u.run.done c.done (place_of ran.answer)) b.places u.outcome
 
     sound : (b : Book) → length b.places ≡ 64 → Sound (next b)
     sound b e = record {
-      chip = cycle_in_range (select_of S) S.image (levels_of l) (access_of a) u.run.chip k.chip;
+      chip = cycle_in_range (select_of S) S.image (levels_of c.levels) (access_of c.access) u.run.chip k.chip;
       done = q;
-      answers = answered-length u.answers u.run.done d ran.answer ∙ k.answers;
+      answers = answered-length u.answers u.run.done c.done (place_of ran.answer) ∙ k.answers;
       places = e;
     }
 
     finish : (t f : Bool) → leb 64 u.run.ends.waiting ≡ f →
         Steps (cond (t && f) (w.refused w.full) (w.done (driven_if t))) u
-        (cond (t && f) (world u.run u.answers u.places BookFull) (next (noted_if t u.places u.run.ends (next_stamp u.run.stamp))))
+        (cond (t && f) (world u.run u.answers u.places (Err BookFull)) (next (noted_if t u.places u.run.ends (next_stamp u.run.stamp))))
     unfolding by6846 stop_of
     finish true true g = refl
     finish true false g =
@@ -129,9 +132,9 @@ module _ (S : Setup) (other : ℕ) (y : Side6840) where
 
     -- 6, 7, or the cycle is done
     by_wait : (b : Bool) →
-        Steps (cond b (w.refused w.waits) (cond (turned (Cycle l a d) u && leb 64 (length (waiting_of u.places u.run.ends))) (w.refused w.full) (w.done (driven (Cycle l a d) u)))) u
-        (cond b (world u.run u.answers u.places MustWait)
-        (cond (changes given u.run.chip ran.chip && leb 64 u.run.ends.waiting) (world u.run u.answers u.places BookFull)
+        Steps (cond b (w.refused w.waits) (cond (turned (Some c) u && leb 64 (length (waiting_of u.places u.run.ends))) (w.refused w.full) (w.done (driven (Some c) u)))) u
+        (cond b (world u.run u.answers u.places (Err MustWait))
+        (cond (changes given u.run.chip ran.chip && leb 64 u.run.ends.waiting) (world u.run u.answers u.places (Err BookFull))
         (next (noted_if (changes given u.run.chip ran.chip) u.places u.run.ends (next_stamp u.run.stamp)))))
     unfolding stop_of
     by_wait true = refl
@@ -140,8 +143,8 @@ module _ (S : Setup) (other : ℕ) (y : Side6840) where
   step_by : (u : World) → u.outcome ≡ Done → Sound u → (nx : Next) → Within (length S.events6846 / 3) nx →
       Steps (cycle_by nx u) u (next_by given S.image u nx)
   unfolding bad_next stop_of
-  step_by u o k (Cycle l a d) q = rw (next_cycle given S.image S.events6846 u l a d) (by_wait u o k l a d q (driver_waits other u.run.stamp))
-  step_by u o k Bad q = next_bad given S.image S.events6846 u
+  step_by u o k (Some c) q = rw (next_cycle given S.image S.events6846 u c) (by_wait u o k c q (driver_waits other u.run.stamp))
+  step_by u o k None q = next_bad given S.image S.events6846 u
 
   step : (u : World) → u.outcome ≡ Done → Sound u → Steps (w.cycle (pair S) w.driver (in_move u)) u (step_of given S.image S.events6846 u)
   step u o k =
@@ -155,10 +158,10 @@ module _ (S : Setup) (other : ℕ) (y : Side6840) where
   abbrev runs : ℕ → World → World
   runs n u = run_of given S.image S.events6846 n u
 
-  stopped-runs : (n : ℕ) (u t : World) (r : w.Stop) → Sound u → t ≡ world u.run u.answers u.places (stop_of r) →
+  stopped-runs : (n : ℕ) (u t : World) (r : w.Stop) → Sound u → t ≡ world u.run u.answers u.places (Err (stop_of r)) →
       Runs (record { board = in_move u; number = w.number_of r; count = 0 }) (runs n t)
   stopped-runs n u t r k e =
-      let f : runs n t ≡ world u.run u.answers u.places (stop_of r) = run-stopped going _ n t (rw e (stop_stops r)) ∙ e in
+      let f : runs n t ≡ world u.run u.answers u.places (Err (stop_of r)) = run-stopped going _ n t (rw e (refusal_stops (stop_of r))) ∙ e in
       rw f (refl, stop-number r, record { chip = k.chip; done = k.done; answers = k.answers; places = k.places })
 
   pub run_sim : (n : ℕ) (u : World) → u.outcome ≡ Done → Sound u → Runs (w.called (pair S) w.driver n (in_move u)) (runs n u)

@@ -18,16 +18,16 @@ use Rattle.mc6840.specs.Rules as r0
 use Rattle.board.specs.declared.Board.{Board}
 use Rattle.board.specs.declared.Pins.{Pins}
 use Rattle.lists.specs.Run.{run}
-use Rattle.outcomes.specs.Numbers.{number_of, report_number, goes}
+use Rattle.outcomes.specs.Numbers.{returned as number_returned, refusal_number, start_refusal_number, report_refusal_number, number_of, goes}
 use Rattle.lists.specs.Events.{words_at, taken_by, next_of, answered}
 use Rattle.mover6846.specs.Cycle as m6
 use Rattle.mover6840.specs.Cycle as m0
-use Rattle.board.specs.Record.{legal, fresh_of, refused_start, start_of, options_fit, book_fits, in_ranges, levels_of, no_levels, report_of}
-use Rattle.board.specs.Calls.{Result, refused, list_fits, given6846, begun6846, put6846, after6846, moved6846, move6846, given6840, begun6840, put6840, after6840, moved6840, move6840}
+use Rattle.board.specs.Record.{legal, fresh_of, refused_start, start_of, options_fit, book_fits, in_ranges, levels_of, no_levels, shown_of, report_of}
+use Rattle.board.specs.Calls.{Result, refused, unless, list_fits, list_checked, given6846, begun6846, put6846, after6846, moved6846, checked6846, move6846, given6840, begun6840, put6840, after6840, moved6840, checked6840, move6840}
 
 -- to unfold this is to unfold the whole board
 whole : Bool
-unfolding t.divider_after t.mode_of t.initialised t.held t.settled t.written t.latch_written t.started t.caught t.fell t.loads t.rose t.gated t.fallen t.enabled t.level_after t.timed_out t.counted_down t.edged t.reaches t.free_cycle t.cycle_of t.pin_in t.control_written t.msb_read s.gap s.signed s.lead_of s.listener_limit s.in_reach s.driver_waits s.listener_waits o.later_than o.turned o.heard_of o.span_of o.rising o.in_order k.entries k.noted_of k.left_of k.in_order_at e6.levels_of e6.access_of e6.bad_event p6.mixed p6.active_edge p6.cp1_edge p6.cp2_edge p6.capturing p6.flagged p6.marked p6.pdr_byte p6.released p6.touched_by p6.pdr_written p6.port_cleared p6.port_settled p6.cp2_out p6.cp2_of p6.port_of r6.setting_of r6.a6_fits r6.extra_fits r6.io_chosen r6.composite_of r6.weight r6.status_of r6.register_byte r6.status_read r6.counter_read r6.after_read r6.pcr_written r6.tcr_written r6.lsb_written r6.stored r6.timer_settled r6.after_write c6.sampled c6.reset_of c6.edged c6.clocked c6.read_by c6.written_by c6.accessed c6.transferred c6.shown c6.reset_cycle c6.cycle_of c6.cto_of c6.in_range e0.levels_of e0.access_of e0.bad_event e0.wired_of r0.setting_at r0.reset_of r0.start_of r0.clocked r0.composite_of r0.status_of r0.status_byte r0.armed_all r0.msb_read_at r0.driven r0.after_read r0.control_at r0.latch_at r0.control_zero r0.stored r0.settled_all r0.accessed r0.under_reset r0.cycle_of r0.outputs_of r0.in_range run number_of report_number goes words_at taken_by next_of answered m6.stopped m6.moved m6.changes m6.noted_if m6.noting m6.cycled m6.next_by m6.step_of m0.stopped m0.moved m0.seen m0.cycled m0.next_by m0.step_of legal fresh_of refused_start start_of options_fit book_fits in_ranges levels_of no_levels report_of refused list_fits given6846 begun6846 put6846 after6846 moved6846 move6846 given6840 begun6840 put6840 after6840 moved6840 move6840
+unfolding t.divider_after t.mode_of t.initialised t.held t.settled t.written t.latch_written t.started t.caught t.fell t.loads t.rose t.gated t.fallen t.enabled t.level_after t.timed_out t.counted_down t.edged t.reaches t.free_cycle t.cycle_of t.pin_in t.control_written t.msb_read s.gap s.signed s.lead_of s.listener_limit s.in_reach s.driver_waits s.listener_waits o.later_than o.turned o.heard_of o.span_of o.rising o.in_order k.entries k.noted_of k.left_of k.in_order_at e6.levels_of e6.access_of e6.bad_event p6.mixed p6.active_edge p6.cp1_edge p6.cp2_edge p6.capturing p6.flagged p6.marked p6.pdr_byte p6.released p6.touched_by p6.pdr_written p6.port_cleared p6.port_settled p6.cp2_out p6.cp2_of p6.port_of r6.setting_of r6.a6_fits r6.extra_fits r6.io_chosen r6.composite_of r6.weight r6.status_of r6.register_byte r6.status_read r6.counter_read r6.after_read r6.pcr_written r6.tcr_written r6.lsb_written r6.stored r6.timer_settled r6.after_write c6.sampled c6.reset_of c6.edged c6.clocked c6.read_by c6.written_by c6.accessed c6.transferred c6.shown c6.reset_cycle c6.cycle_of c6.cto_of c6.in_range e0.levels_of e0.access_of e0.bad_event e0.wired_of r0.setting_at r0.reset_of r0.start_of r0.clocked r0.composite_of r0.status_of r0.status_byte r0.armed_all r0.msb_read_at r0.driven r0.after_read r0.control_at r0.latch_at r0.control_zero r0.stored r0.settled_all r0.accessed r0.under_reset r0.cycle_of r0.outputs_of r0.in_range run number_returned refusal_number start_refusal_number report_refusal_number goes words_at taken_by next_of answered m6.changes m6.noted_if m6.noting m6.cycled m6.next_by m6.step_of m0.seen m0.cycled m0.next_by m0.step_of legal fresh_of refused_start start_of options_fit book_fits in_ranges levels_of no_levels shown_of report_of refused unless list_fits list_checked given6846 begun6846 put6846 after6846 moved6846 checked6846 move6846 given6840 begun6840 put6840 after6840 moved6840 checked6840 move6840
 whole = true
 
 -- a step of a case: a call with the number and the count that it returns; or both chips moved by some cycles, and the report
@@ -80,7 +80,7 @@ module _ (c : Case) where
   checked (sees n levels ∷ ss) b xs ys =
       let q = move6846 rom c.events46 n b xs in
       let r = move6840 c.events40 n q.moved.board ys in
-      go_on (returned 0 n q && returned 0 n r && eqb (pins (report_of r.moved.board)) levels)
+      go_on (returned 0 n q && returned 0 n r && eqb (pins (shown_of (report_of r.moved.board))) levels)
       (checked ss r.moved.board q.answers r.answers)
 
 -- what an answer place holds before it is written

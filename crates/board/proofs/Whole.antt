@@ -16,14 +16,14 @@ use Rattle.wire.proofs.Ring.{none_waits}
 use Rattle.wire.proofs.Order.{at_in_order}
 use Rattle.wire.proofs.Ranges.{Stamps, Ranged, called_keeps}
 use Rattle.board.specs.declared.Board.{Board}
-use Rattle.outcomes.specs.declared.Outcome.{Outcome}
-use Rattle.outcomes.specs.declared.Outcome.TheVariants.{Done, BadRom, BadList, FewPlaces, BadBoard}
-use Rattle.outcomes.specs.Numbers.{number_of}
-use Rattle.outcomes.proofs.Laws.{done-number, rom-number, list-number, places-number, board-number}
+use Rattle.std.specs.Prelude.{Ok, Err}
+use Rattle.outcomes.specs.declared.Refusal.{Refusal}
+use Rattle.outcomes.specs.Numbers.{Outcome, Done, goes}
+use Rattle.outcomes.proofs.Laws.{goes_done, refusal_stops}
 use Rattle.board.specs.Record.{legal, wired_by, options_fit, book_fits, in_ranges}
-use Rattle.board.specs.Calls.{Result, list_fits, moved6846, move6846, moved6840, move6840, refused}
+use Rattle.board.specs.Calls.{Result, list_fits, list_checked, unless, moved6846, checked6846, move6846, moved6840, checked6840, move6840, refused}
 use Rattle.board.specs.Agreement.{Setup, Chip, the6846, the6840, Host, called_on}
-use Rattle.board.proofs.Options.{first_of, second_of}
+use Rattle.board.proofs.Legal.{first_of, second_of}
 use Rattle.board.proofs.Pair.{pair, held, Keeps}
 use Rattle.board.proofs.Agreement.{machine, calls, in_ranges_lem, list_fits_lem}
 use Rattle.board.proofs.Laws.{Alike, moves_add_6846, moves_add_6840}
@@ -142,40 +142,58 @@ module _ (b : Board) (t : Typed b) (e : in_ranges b ≡ true) where
         (in_ranges_lem setup (called_on setup c n host).host q.2 v.range, q.2)
 
 -- a refusal is not done
-not_done : (o : Outcome) (k : ℕ) → number_of o ≡ k → 0 < k → o ≡ Done → ⊥
-not_done o k e h d = let z : k ≡ 0 = sym e ∙ ap number_of d ∙ done-number in omega arith
+not_done : (r : Refusal) → Err r ≡ Done → ⊥
+not_done r e = false≢true (sym (refusal_stops r) ∙ ap goes e ∙ goes_done)
+
+-- a list that is not refused fits, and has places enough
+passed_list : (n done places : ℕ) → list_checked n done places ≡ Done → (list_fits n done ≡ true) × (leb (n / 3) places ≡ true)
+unfolding list_checked
+passed_list n done places e = by (list_fits n done) (leb (n / 3) places) refl refl
+  where
+    by : (r u : Bool) → list_fits n done ≡ r → leb (n / 3) places ≡ u → (list_fits n done ≡ true) × (leb (n / 3) places ≡ true)
+    by true true f g = (f, g)
+    by true false f g = absurd (not_done _ (rw (f, g) at e))
+    by false u f g = absurd (not_done _ (rw f at e))
+
+-- what a move that is not refused before its first cycle has passed
+passed_6846 : (rom es : List ℕ) (b : Board) (xs : List ℕ) → checked6846 rom es b xs ≡ Done →
+    (in_ranges b ≡ true) × (eqb (length rom) 2048 ≡ true) × (list_fits (length es) b.done6846 ≡ true) × (leb (length es / 3) (length xs) ≡ true)
+unfolding checked6846
+passed_6846 rom es b xs e = by (in_ranges b) (eqb (length rom) 2048) refl refl
+  where
+    by : (p q : Bool) → in_ranges b ≡ p → eqb (length rom) 2048 ≡ q →
+        (in_ranges b ≡ true) × (eqb (length rom) 2048 ≡ true) × (list_fits (length es) b.done6846 ≡ true) × (leb (length es / 3) (length xs) ≡ true)
+    by true true f g = let l = passed_list (length es) b.done6846 (length xs) (rw (f, g) at e) in (f, g, l.0, l.1)
+    by true false f g = absurd (not_done _ (rw (f, g) at e))
+    by false q f g = absurd (not_done _ (rw f at e))
+
+passed_6840 : (es : List ℕ) (b : Board) (xs : List ℕ) → checked6840 es b xs ≡ Done →
+    (in_ranges b ≡ true) × (list_fits (length es) b.done6840 ≡ true) × (leb (length es / 3) (length xs) ≡ true)
+unfolding checked6840
+passed_6840 es b xs e = by (in_ranges b) refl
+  where
+    by : (p : Bool) → in_ranges b ≡ p → (in_ranges b ≡ true) × (list_fits (length es) b.done6840 ≡ true) × (leb (length es / 3) (length xs) ≡ true)
+    by true f = let l = passed_list (length es) b.done6840 (length xs) (rw f at e) in (f, l.0, l.1)
+    by false f = absurd (not_done _ (rw f at e))
 
 -- past the refusals a call is its cycles
 passes_6846 : (rom es : List ℕ) (n : ℕ) (b : Board) (xs : List ℕ) → in_ranges b ≡ true → eqb (length rom) 2048 ≡ true → list_fits (length es) b.done6846 ≡ true → leb (length es / 3) (length xs) ≡ true →
     move6846 rom es n b xs ≡ moved6846 rom es n b xs
-unfolding move6846
+unfolding move6846 unless checked6846 list_checked
 passes_6846 rom es n b xs p q r u = rw (p, q, r, u)
 
 passes_6840 : (es : List ℕ) (n : ℕ) (b : Board) (xs : List ℕ) → in_ranges b ≡ true → list_fits (length es) b.done6840 ≡ true → leb (length es / 3) (length xs) ≡ true →
     move6840 es n b xs ≡ moved6840 es n b xs
-unfolding move6840
+unfolding move6840 unless checked6840 list_checked
 passes_6840 es n b xs p r u = rw (p, r, u)
 
--- some test failed
-abbrev Fails : Bool → Bool → Bool → Bool → Type 0
-Fails p q r u = (p && q && r && u) ≡ false
+refusal_6846 : (rom es : List ℕ) (n : ℕ) (b : Board) (xs : List ℕ) (r : Refusal) → checked6846 rom es b xs ≡ Err r → (move6846 rom es n b xs).moved.outcome ≡ Done → ⊥
+unfolding move6846 unless refused
+refusal_6846 rom es n b xs r e d = not_done r (rw e at d)
 
-refusal_6846 : (rom es : List ℕ) (n : ℕ) (b : Board) (xs : List ℕ) (p q r u : Bool) →
-    in_ranges b ≡ p → eqb (length rom) 2048 ≡ q → list_fits (length es) b.done6846 ≡ r → leb (length es / 3) (length xs) ≡ u → Fails p q r u → (move6846 rom es n b xs).moved.outcome ≡ Done → ⊥
-unfolding move6846 refused
-refusal_6846 rom es n b xs true true true true e f g h k d = false≢true (sym k)
-refusal_6846 rom es n b xs true true true false e f g h k d = not_done FewPlaces 4 places-number (lit< tt) (rw (e, f, g, h) at d)
-refusal_6846 rom es n b xs true true false u e f g h k d = not_done BadList 3 list-number (lit< tt) (rw (e, f, g) at d)
-refusal_6846 rom es n b xs true false r u e f g h k d = not_done BadRom 2 rom-number (lit< tt) (rw (e, f) at d)
-refusal_6846 rom es n b xs false q r u e f g h k d = not_done BadBoard 9 board-number (lit< tt) (rw e at d)
-
-refusal_6840 : (es : List ℕ) (n : ℕ) (b : Board) (xs : List ℕ) (p r u : Bool) →
-    in_ranges b ≡ p → list_fits (length es) b.done6840 ≡ r → leb (length es / 3) (length xs) ≡ u → Fails p true r u → (move6840 es n b xs).moved.outcome ≡ Done → ⊥
-unfolding move6840 refused
-refusal_6840 es n b xs true true true e g h k d = false≢true (sym k)
-refusal_6840 es n b xs true true false e g h k d = not_done FewPlaces 4 places-number (lit< tt) (rw (e, g, h) at d)
-refusal_6840 es n b xs true false u e g h k d = not_done BadList 3 list-number (lit< tt) (rw (e, g) at d)
-refusal_6840 es n b xs false r u e g h k d = not_done BadBoard 9 board-number (lit< tt) (rw e at d)
+refusal_6840 : (es : List ℕ) (n : ℕ) (b : Board) (xs : List ℕ) (r : Refusal) → checked6840 es b xs ≡ Err r → (move6840 es n b xs).moved.outcome ≡ Done → ⊥
+unfolding move6840 unless refused
+refusal_6840 es n b xs r e d = not_done r (rw e at d)
 
 -- k cycles are k plain cycles: a move by m + n is a move by m, and then by n, where the first was all done. For any record.
 module _ (rom es : List ℕ) (m n : ℕ) (b : Board) (xs : List ℕ) (t : Typed b) where
@@ -198,15 +216,11 @@ module _ (rom es : List ℕ) (m n : ℕ) (b : Board) (xs : List ℕ) (t : Typed 
       rw (all, next, one) (moves_add_6846 rom es m n b xs (rw one at d))
 
   pub move_adds_6846 : first6846.moved.outcome ≡ Done → Alike (move6846 rom es (m + n) b xs) (move6846 rom es n first6846.moved.board first6846.answers)
-  move_adds_6846 d = by (in_ranges b) (eqb (length rom) 2048) (list_fits (length es) b.done6846) (leb (length es / 3) (length xs)) refl refl refl refl
+  move_adds_6846 d = by (checked6846 rom es b xs) refl
     where
-      by : (p q r u : Bool) → in_ranges b ≡ p → eqb (length rom) 2048 ≡ q → list_fits (length es) b.done6846 ≡ r → leb (length es / 3) (length xs) ≡ u →
-          Alike (move6846 rom es (m + n) b xs) (move6846 rom es n first6846.moved.board first6846.answers)
-      by true true true true e f g h = whole_6846 e f g h d
-      by true true true false e f g h = absurd (refusal_6846 rom es m b xs _ _ _ _ e f g h refl d)
-      by true true false u e f g h = absurd (refusal_6846 rom es m b xs _ _ _ _ e f g h refl d)
-      by true false r u e f g h = absurd (refusal_6846 rom es m b xs _ _ _ _ e f g h refl d)
-      by false q r u e f g h = absurd (refusal_6846 rom es m b xs _ _ _ _ e f g h refl d)
+      by : (o : Outcome) → checked6846 rom es b xs ≡ o → Alike (move6846 rom es (m + n) b xs) (move6846 rom es n first6846.moved.board first6846.answers)
+      by (Ok tt) e = let p = passed_6846 rom es b xs e in whole_6846 p.0 p.1 p.2 p.3 d
+      by (Err r) e = absurd (refusal_6846 rom es m b xs r e d)
 
 module _ (es : List ℕ) (m n : ℕ) (b : Board) (xs : List ℕ) (t : Typed b) where
   abbrev first6840 : Result
@@ -228,11 +242,8 @@ module _ (es : List ℕ) (m n : ℕ) (b : Board) (xs : List ℕ) (t : Typed b) w
       rw (all, next, one) (moves_add_6840 es m n b xs (rw one at d))
 
   pub move_adds_6840 : first6840.moved.outcome ≡ Done → Alike (move6840 es (m + n) b xs) (move6840 es n first6840.moved.board first6840.answers)
-  move_adds_6840 d = by (in_ranges b) (list_fits (length es) b.done6840) (leb (length es / 3) (length xs)) refl refl refl
+  move_adds_6840 d = by (checked6840 es b xs) refl
     where
-      by : (p r u : Bool) → in_ranges b ≡ p → list_fits (length es) b.done6840 ≡ r → leb (length es / 3) (length xs) ≡ u →
-          Alike (move6840 es (m + n) b xs) (move6840 es n first6840.moved.board first6840.answers)
-      by true true true e g h = whole_6840 e g h d
-      by true true false e g h = absurd (refusal_6840 es m b xs _ _ _ e g h refl d)
-      by true false u e g h = absurd (refusal_6840 es m b xs _ _ _ e g h refl d)
-      by false r u e g h = absurd (refusal_6840 es m b xs _ _ _ e g h refl d)
+      by : (o : Outcome) → checked6840 es b xs ≡ o → Alike (move6840 es (m + n) b xs) (move6840 es n first6840.moved.board first6840.answers)
+      by (Ok tt) e = let p = passed_6840 es b xs e in whole_6840 p.0 p.1 p.2 d
+      by (Err r) e = absurd (refusal_6840 es m b xs r e d)

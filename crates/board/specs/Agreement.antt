@@ -2,7 +2,7 @@
 -- answer places, the same throughout. Make any sequence of calls that move either chip by any number of cycles. Whenever both chips
 -- have reached the same cycle, both chips and all answers are those of a board that moves both chips together, one cycle at a time.
 -- At every moment in between, at least one chip can move."
-use Rattle.std.specs.Prelude.{ℕ, zero, suc, ◌+◌, ◌/◌, ◌%◌, ◌^◌, ◌<◌, ◌≤◌, ◌≡◌, Bool, true, false, ◌&&◌, List, [], ◌∷◌, length}
+use Rattle.std.specs.Prelude.{ℕ, zero, suc, ◌+◌, ◌/◌, ◌%◌, ◌^◌, ◌<◌, ◌≤◌, ◌≡◌, Bool, true, false, ◌&&◌, List, [], ◌∷◌, length, Some, None}
 use Rattle.mc6846.specs.declared.Combo.{Combo}
 use Rattle.mc6846.specs.declared.Select.{Select}
 use Rattle.mc6846.specs.Cycle.{start_of as combo₀, cycle_of as combo_cycle, cto_of}
@@ -11,10 +11,9 @@ use Rattle.mc6840.specs.Rules.{start_of as ptm₀, cycle_of as ptm_cycle}
 use Rattle.board.specs.declared.Board.{Board}
 use Rattle.signals.specs.Words6846 as w6846
 use Rattle.signals.specs.Words6840 as w6840
-use Rattle.lists.specs.declared.Next.{Next}
-use Rattle.lists.specs.declared.Next.TheVariants.{Cycle, Bad}
 use Rattle.outcomes.specs.Numbers.{number_of}
-use Rattle.lists.specs.Events.{next_of, answered}
+use Rattle.signals.specs.Words.{place_of}
+use Rattle.lists.specs.Events.{Next, next_of, answered}
 use Rattle.board.specs.Record.{legal, wired_by, start_of}
 use Rattle.board.specs.Calls.{Result, move6846, move6840}
 
@@ -79,8 +78,8 @@ pub record Both : Type 0 where
 
 -- The next event is bad.
 unfoldable pub bad_next : Next → Bool
-bad_next (Cycle levels access done) = false
-bad_next Bad = true
+bad_next (Some c) = false
+bad_next None = true
 
 module _ (S : Setup) where
   abbrev pub select_of : Select
@@ -120,20 +119,20 @@ module _ (S : Setup) where
 
   -- The next cycle of the 6846, by its own list.
   unfoldable pub by6846 : Next → Side6846 → Side6846
-  by6846 (Cycle levels access done) x =
-      let r = combo_cycle select_of S.image (w6846.levels_of levels) (w6846.access_of access) x.chip in
-      record { chip = r.chip; levels = levels; done = done; answers = answered x.answers x.done done r.answer }
-  by6846 Bad x = x
+  by6846 (Some c) x =
+      let r = combo_cycle select_of S.image (w6846.levels_of c.levels) (w6846.access_of c.access) x.chip in
+      record { chip = r.chip; levels = c.levels; done = c.done; answers = answered x.answers x.done c.done (place_of r.answer) }
+  by6846 None x = x
 
   abbrev pub next_of6846 : ℕ → Side6846 → Next
   next_of6846 stamp x = next_of w6846.bad_event S.events6846 x.done stamp x.levels
 
   -- The next cycle of the 6840, by its own list, and by the level that it sees on its wired input.
   unfoldable pub by6840 : Bool → Next → Side6840 → Side6840
-  by6840 level (Cycle levels access done) x =
-      let r = ptm_cycle (w6840.wired_of S.wire level (w6840.levels_of levels)) (w6840.access_of access) x.chip in
-      record { chip = r.chip; levels = levels; done = done; answers = answered x.answers x.done done r.answer }
-  by6840 level Bad x = x
+  by6840 level (Some c) x =
+      let r = ptm_cycle (w6840.wired_of S.wire level (w6840.levels_of c.levels)) (w6840.access_of c.access) x.chip in
+      record { chip = r.chip; levels = c.levels; done = c.done; answers = answered x.answers x.done c.done (place_of r.answer) }
+  by6840 level None x = x
 
   abbrev pub next_of6840 : ℕ → Side6840 → Next
   next_of6840 stamp x = next_of w6840.bad_event S.events6840 x.done stamp x.levels

@@ -1,6 +1,6 @@
 -- The sections "The board", "Numbers returned" and, for the report, "Waiting and the wire" of document 01: start, the ranges of number
 -- 9, and the report.
-use Rattle.std.specs.Prelude.{ℕ, Bool, false, not, cond, ◌&&◌, ◌||◌, replicate, leb, eqb}
+use Rattle.std.specs.Prelude.{ℕ, Bool, false, not, cond, ◌&&◌, ◌||◌, replicate, leb, eqb, Result, Ok, Err}
 use Rattle.wire.specs.Stamp.{in_reach}
 use Rattle.wire.specs.Book.{in_order_at}
 use Rattle.mc6846.specs.declared.Select.{Select}
@@ -11,11 +11,12 @@ use Rattle.mc6846.specs.Registers.{composite_of}
 use Rattle.mc6846.specs.Cycle.{start_of as combo₀, cto_of, in_range}
 use Rattle.mc6840.specs.Rules as ptm
 use Rattle.board.specs.declared.Board.{Board}
+use Rattle.board.specs.declared.Options.{Options}
 use Rattle.board.specs.declared.Started.{Started}
-use Rattle.outcomes.specs.declared.Begin.TheVariants.{Fresh, BadOption}
 use Rattle.board.specs.declared.Pins.{Pins}
-use Rattle.outcomes.specs.declared.Seen.{Seen}
-use Rattle.outcomes.specs.declared.Seen.TheVariants.{Levels, Apart, BadBoard}
+use Rattle.outcomes.specs.declared.StartRefusal.TheVariants.{BadOption}
+use Rattle.outcomes.specs.declared.ReportRefusal.{ReportRefusal}
+use Rattle.outcomes.specs.declared.ReportRefusal.TheVariants.{Apart, BadBoard}
 
 -- Start options: ROM code and I/O code 0 to 3, different; A6 option 0, 1 or 2; extra line 0 or 7 to 10; wire 0 or 1 to 3.
 unfoldable pub legal : ℕ → ℕ → ℕ → ℕ → ℕ → Bool
@@ -45,14 +46,18 @@ fresh_of select wire stamp = record {
 
 -- Refused start returns the board started with ROM code 0, I/O code 1, other options 0, stamp 0.
 unfoldable pub refused_start : Started
-refused_start = record { board = fresh_of (record { rom = 0; io = 1; a6 = 0; extra = 0 }) 0 0; outcome = BadOption }
+refused_start = record { board = fresh_of (record { rom = 0; io = 1; a6 = 0; extra = 0 }) 0 0; outcome = Err BadOption }
 
 -- 1: an option is outside its values or the two codes are equal.
 unfoldable pub start_of : ℕ → ℕ → ℕ → ℕ → ℕ → ℕ → Started
 start_of rom io a6 extra wire stamp =
     cond (legal rom io a6 extra wire)
-    (record { board = fresh_of (record { rom = rom; io = io; a6 = a6; extra = extra }) wire stamp; outcome = Fresh })
+    (record { board = fresh_of (record { rom = rom; io = io; a6 = a6; extra = extra }) wire stamp; outcome = Ok tt })
     refused_start
+
+-- the options that a board has
+abbrev pub options_of : Board → Options
+options_of b = record { rom = b.select.rom; io = b.select.io; a6 = b.select.a6; extra = b.select.extra; wire = b.wire }
 
 -- Ranges for 9: options as for start.
 unfoldable pub options_fit : Board → Bool
@@ -70,7 +75,6 @@ in_ranges b =
 -- The report gives P0-P7 and CP2, CTO, O1-O3 and IRQ. IRQ is low if either chip's composite flag is set.
 unfoldable pub levels_of : Board → Pins
 levels_of b = record {
-  outcome = Levels;
   port = port_of b.combo;
   cp2 = cp2_of b.combo;
   cto = cto_of b.combo;
@@ -81,9 +85,13 @@ levels_of b = record {
 }
 
 -- Refused report gives all levels 0.
-unfoldable pub no_levels : Seen → Pins
-no_levels o = record { outcome = o; port = 0; cp2 = false; cto = false; o1 = false; o2 = false; o3 = false; irq = false }
+unfoldable pub no_levels : Pins
+no_levels = record { port = 0; cp2 = false; cto = false; o1 = false; o2 = false; o3 = false; irq = false }
+
+unfoldable pub shown_of : Result Pins ReportRefusal → Pins
+shown_of (Ok p) = p
+shown_of (Err e) = no_levels
 
 -- 8: report asked while the stamps differ. Order: report 9, 8.
-unfoldable pub report_of : Board → Pins
-report_of b = cond (in_ranges b) (cond (eqb b.stamp6846 b.stamp6840) (levels_of b) (no_levels Apart)) (no_levels BadBoard)
+unfoldable pub report_of : Board → Result Pins ReportRefusal
+report_of b = cond (in_ranges b) (cond (eqb b.stamp6846 b.stamp6840) (Ok (levels_of b)) (Err Apart)) (Err BadBoard)

@@ -1,14 +1,14 @@
 // The lines of a text.
 #![tactic(auto)]
 
-ghost use Rattle.std.specs.Prelude.{◌≡◌, ◌<◌, length};
+ghost use Rattle.std.specs.Prelude.{◌≡◌, ◌≤◌, length};
 ghost use Rattle.lines.specs.Lines.{line_end, line_of, shorn};
 
 // What stands at the start of a text.
-#[derive(Clone, Copy)]
+#[derive(Clone, Copy, Debug, PartialEq, Eq)]
 pub enum Line {
-    // A line: how many bytes it has, and how many are passed with its end.
-    Whole(usize, usize),
+    // A line: how many bytes it has, and how many are passed with its end. Numbers and no slices, as `line_of` gives them.
+    Whole { length: usize, passed: usize },
     // A line of more than 4,096 bytes.
     Long,
     // A line whose end is not there yet.
@@ -21,29 +21,21 @@ pub enum Line {
 fn line_end(text: &[u8]) -> usize
     ensures { result ≡ line_end text.now }
 {
-    let mut i = 0;
-    while i < text.len() {
-        if text[i] == b'\n' {
-            return i;
-        }
-        i += 1;
-    }
-    i
+    text.iter()
+        .position(|byte| *byte == b'\n')
+        .unwrap_or(text.len())
 }
 
 // The bytes of a line of `n` once a CR at its end is dropped.
 #[tactic(auto, unfolding(crate::specs::Lines::shorn))]
 fn shear(text: &[u8], n: usize) -> usize
-    requires { n < length text.now }
+    requires { n ≤ length text.now }
     ensures { result ≡ shorn text.now n }
 {
-    if 0 < n {
-        let last = n - 1;
-        if text[last] == b'\r' {
-            return last;
-        }
+    match text[..n].last() {
+        Some(b'\r') => n - 1,
+        _ => n,
     }
-    n
 }
 
 // The first line of a text, of which no more comes where `whole` says so.
@@ -56,13 +48,19 @@ pub fn cut(text: &[u8], whole: bool) -> Line
         return Line::Long;
     }
     if n < text.len() {
-        return Line::Whole(shear(text, n), n + 1);
+        return Line::Whole {
+            length: shear(text, n),
+            passed: n + 1,
+        };
     }
-    if whole {
-        if 0 < n {
-            return Line::Whole(n, n);
-        }
+    if !whole {
+        return Line::Part;
+    }
+    if n == 0 {
         return Line::End;
     }
-    Line::Part
+    Line::Whole {
+        length: n,
+        passed: n,
+    }
 }

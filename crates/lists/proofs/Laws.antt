@@ -8,9 +8,8 @@ use lib.ListN.{length, set, length-set}
 use lib.Dec.{eqb, ltb}
 use borrow.Author.Tests.{ltb-true}
 use Rattle.wire.specs.Stamp.{gap}
-use Rattle.lists.specs.declared.Next.{Next}
-use Rattle.lists.specs.declared.Next.TheVariants.{Cycle, Bad}
-use Rattle.lists.specs.Events.{words_at, bad_stamp, taken_by, next_of, answered}
+use Rattle.std.specs.Prelude.{Some, None}
+use Rattle.lists.specs.Events.{Next, words_at, bad_stamp, taken_by, next_of, answered}
 
 -- an answer is written in place
 pub answered-length : (xs : List ℕ) (before after answer : ℕ) → length (answered xs before after answer) ≡ length xs
@@ -23,8 +22,8 @@ answered-length xs before after answer = by (eqb before after)
 
 -- no cycle does more events than the list has
 abbrev pub Within : ℕ → Next → Type 0
-Within most (Cycle levels access done) = done ≤ most
-Within most Bad = Unit {0}
+Within most (Some c) = c.done ≤ most
+Within most None = Unit {0}
 
 either : (most : ℕ) (b : Bool) (x y : Next) → (b ≡ true → Within most x) → (b ≡ false → Within most y) → Within most (cond b x y)
 either most true x y p q = p refl

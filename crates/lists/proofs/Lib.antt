@@ -1,3 +1,4 @@
 pub mod Run
 pub mod Count
 pub mod Laws
+pub mod Stays

@@ -1,7 +1,7 @@
 -- Laws of a run, for both chips.
 use Prim.Native.Nat.{ℕ, zero, suc, ◌+◌, ◌-◌, ◌<◌, ◌≤◌}
 use mathlib.Core.Path.{◌≡◌, refl, ap, sym, ◌∙◌}
-use mathlib.Core.Bool.{Bool, true, false}
+use mathlib.Core.Bool.{Bool, true, false, cond}
 use native.Mathlib.Omega.{arith}
 use native.Mathlib.Nat.{zero-add}
 use Rattle.lists.specs.Run.{run}
@@ -50,3 +50,13 @@ module _ {W : Type 0} (goes : W → Bool) (step : W → W) where
   -- the last cycle of a run is the one that stops it
   pub run_last : (n i : ℕ) (w v : W) → i < n → goes w ≡ true → v ≡ step w → goes v ≡ false → run goes step (n - i) w ≡ v
   run_last n i w v h e f k = run_again n i w v h e f ∙ run-stopped (n - (i + 1)) v k
+
+  -- what each cycle leaves as it was, a run leaves so
+  pub run_keeps : {A : Type 0} (f : W → A) → ((w : W) → f (step w) ≡ f w) → (n : ℕ) (w : W) → f (run goes step n w) ≡ f w
+  unfolding run
+  run_keeps f k zero w = refl
+  run_keeps f k (suc n) w = by (goes w) (run_keeps f k n (step w) ∙ k w)
+    where
+      by : (b : Bool) → f (run goes step n (step w)) ≡ f w → f (cond b (run goes step n (step w)) w) ≡ f w
+      by true e = e
+      by false e = refl

@@ -3,6 +3,7 @@ use Prim.Native.Nat.{ℕ}
 use mathlib.Core.Path.{◌≡◌, refl}
 use mathlib.Core.Bool.{Bool, true, false, cond, ◌&&◌}
 use mathlib.Core.List.{[], ◌∷◌}
+use Rattle.std.specs.Prelude.{Option, Some, None}
 use lib.Dec.{eqb}
 use lib.ListN.{length}
 use Rattle.timer.specs.declared.Timer.{Timer}
@@ -12,27 +13,33 @@ use Rattle.timer.proofs.Laws.{cycle_fits, settled_fits, latch_fits, control_fits
 use Rattle.mc6840.specs.declared.Ptm.{Ptm}
 use Rattle.signals.specs.declared.m6840.Levels.{Levels}
 use Rattle.signals.specs.declared.m6840.Access.{Access}
-use Rattle.mc6840.specs.declared.Done.{Done}
+use Rattle.signals.specs.declared.Done.{Done}
 use Rattle.mc6840.specs.Fields.{timer_at, done}
 use Rattle.mc6840.specs.Rules.{reset_of, start_of, clocked, armed_all, msb_read_at, after_read, control_at, latch_at, control_zero, stored, settled_all, accessed, under_reset, cycle_of, in_range}
 
+-- What is asked under RESET leaves the chip alone.
+under_reset-leaves : (a : Option Access) (p : Ptm) → (under_reset a p).chip ≡ p
+unfolding under_reset
+under_reset-leaves None p = refl
+under_reset-leaves (Some a) p = refl
+
 -- What RESET leaves: with RESET low the chip after the cycle is the reset state with its levels, whatever it was.
-pub reset-leaves : (l : Levels) (a : Access) (p : Ptm) → l.reset ≡ false → (cycle_of l a p).chip ≡ reset_of l
-unfolding cycle_of under_reset
-reset-leaves l a p h = rw h
+pub reset-leaves : (l : Levels) (a : Option Access) (p : Ptm) → l.reset ≡ false → (cycle_of l a p).chip ≡ reset_of l
+unfolding cycle_of reset_of
+reset-leaves l a p h = rw h (under_reset-leaves a (reset_of l))
 
--- A cycle without access is the timers' cycles, and answers 256.
-pub quiet-cycle : (l : Levels) (a : Access) (p : Ptm) → l.reset ≡ true → a.present ≡ false → cycle_of l a p ≡ done (clocked l p) 256
-unfolding cycle_of
-quiet-cycle l a p h k = rw (h, k)
+-- A cycle without access is the timers' cycles, and drives nothing.
+pub quiet-cycle : (l : Levels) (p : Ptm) → l.reset ≡ true → cycle_of l None p ≡ done (clocked l p) None
+unfolding cycle_of accessed
+quiet-cycle l p h = rw h
 
-pub quiet-answer : (l : Levels) (a : Access) (p : Ptm) → a.present ≡ false → (cycle_of l a p).answer ≡ 256
-unfolding cycle_of under_reset
-quiet-answer l a p k = by l.reset
+pub quiet-answer : (l : Levels) (p : Ptm) → (cycle_of l None p).answer ≡ None
+unfolding cycle_of accessed under_reset
+quiet-answer l p = by l.reset
   where
-    by : (b : Bool) → (cond b (cond a.present (accessed a (clocked l p)) (done (clocked l p) 256)) (under_reset a (reset_of l))).answer ≡ 256
-    by true = rw k
-    by false = rw k
+    by : (b : Bool) → (cond b (accessed None (clocked l p)) (under_reset None (reset_of l))).answer ≡ None
+    by true = refl
+    by false = refl
 
 -- the levels that a timer sampled last
 pub record Inputs : Type 0 where
@@ -58,12 +65,12 @@ unfolding reset_of
 reset_samples l = (refl, refl, refl)
 
 -- After a cycle without access each timer's gate and clock are that cycle's levels.
-pub cycle_samples : (l : Levels) (a : Access) (p : Ptm) → a.present ≡ false → Sampled l (cycle_of l a p).chip
-unfolding cycle_of under_reset
-cycle_samples l a p k = by l.reset
+pub cycle_samples : (l : Levels) (p : Ptm) → Sampled l (cycle_of l None p).chip
+unfolding cycle_of accessed under_reset
+cycle_samples l p = by l.reset
   where
-    by : (b : Bool) → Sampled l (cond b (cond a.present (accessed a (clocked l p)) (done (clocked l p) 256)) (under_reset a (reset_of l))).chip
-    by true = rw k (clocked_samples l p)
+    by : (b : Bool) → Sampled l (cond b (accessed None (clocked l p)) (under_reset None (reset_of l))).chip
+    by true = clocked_samples l p
     by false = reset_samples l
 
 -- Three timers, all in range.
@@ -119,7 +126,7 @@ either : (P : Ptm → Type 0) (b : Bool) (x y : Ptm) → P x → P y → P (cond
 either P true x y s t = s
 either P false x y s t = t
 
-either_done : (P : Ptm → Type 0) (b : Bool) (x y : Done) → P x.chip → P y.chip → P (cond b x y).chip
+either_done : (P : Ptm → Type 0) (b : Bool) (x y : Done Ptm) → P x.chip → P y.chip → P (cond b x y).chip
 either_done P true x y s t = s
 either_done P false x y s t = t
 
@@ -156,32 +163,30 @@ module _ (a b c : Timer) (m n : ℕ) (x : fits a ≡ true) (y : fits b ≡ true)
       (either Fits (eqb r 7) _ _ (three-fit _ _ _ _ _ x y (latch_fits _ _ c z))
       (three-fit _ _ _ _ _ x y z))))))))
 
-  access-in-range : (k : Access) → in_range (accessed k chip).chip ≡ true
-  unfolding accessed
-  access-in-range k =
+  access-in-range : (k : Option Access) → in_range (accessed k chip).chip ≡ true
+  unfolding accessed three
+  access-in-range None = three-fit _ _ _ _ _ x y z
+  access-in-range (Some k) =
       either_done Fits k.read _ _ (read-in-range k.register) (settled-in-range _ (stored-in-range k.register k.byte))
 
 -- A cycle keeps the chip in range.
-pub cycle_in_range : (l : Levels) (a : Access) (p : Ptm) → in_range p ≡ true → in_range (cycle_of l a p).chip ≡ true
-unfolding cycle_of under_reset clocked three
+pub cycle_in_range : (l : Levels) (a : Option Access) (p : Ptm) → in_range p ≡ true → in_range (cycle_of l a p).chip ≡ true
+unfolding cycle_of clocked three
 cycle_in_range l a p h =
     either_done Fits l.reset _ _
-    (either_done Fits a.present _ _
     (access-in-range _ _ _ _ _ (cycle_fits _ _ _ _ (first_fits p h)) (cycle_fits _ _ _ _ (second_fits p h)) (cycle_fits _ _ _ _ (third-fits p h)) a)
-    (clocked-in-range l p h))
-    (reset-in-range l)
+    (rw (under_reset-leaves a (reset_of l)) (reset-in-range l))
 
 -- A cycle keeps the row at three timers.
-pub cycle-length : (l : Levels) (a : Access) (p : Ptm) → length (cycle_of l a p).chip.timers ≡ 3
+pub cycle-length : (l : Levels) (a : Option Access) (p : Ptm) → length (cycle_of l a p).chip.timers ≡ 3
 unfolding cycle_of under_reset reset_of clocked accessed settled_all after_read armed_all msb_read_at
-cycle-length l a p =
+cycle-length l None p = either_done Three l.reset _ _ refl refl
+cycle-length l (Some a) p =
     either_done Three l.reset _ _
-    (either_done Three a.present _ _
     (either_done Three a.read _ _
     (either Three (eqb a.register 1) _ _ refl
     (either Three (eqb a.register 2) _ _ refl
     (either Three (eqb a.register 4) _ _ refl
     (either Three (eqb a.register 6) _ _ refl refl))))
-    refl)
     refl)
     refl

@@ -2,11 +2,13 @@
 use Prim.Native.Nat.{ℕ}
 use mathlib.Core.Path.{◌≡◌, refl}
 use mathlib.Core.Bool.{Bool, true, false}
+use Rattle.std.specs.Prelude.{Option, Some, None}
 use mathlib.Core.List.{List, [], ◌∷◌}
 use Rattle.timer.specs.Rules.{divider_after, mode_of, initialised, held, settled, written, latch_written, started, caught, fell, loads, rose, gated, fallen, enabled, level_after, timed_out, counted_down, edged, reaches, free_cycle, cycle_of as timer_cycle, pin_in, control_written, msb_read}
 use Rattle.mc6840.specs.declared.Ptm.{Ptm}
 use Rattle.signals.specs.declared.m6840.Levels.{Levels}
 use Rattle.signals.specs.declared.m6840.Access.{Access}
+use Rattle.signals.specs.Words.{place_of}
 use Rattle.signals.specs.Words6840.{levels_of}
 use Rattle.mc6840.specs.Fields.{timer_at}
 use Rattle.mc6840.specs.Rules.{setting_at, reset_of, start_of, clocked, composite_of, status_byte, status_of, armed_all, msb_read_at, driven, after_read, control_at, latch_at, control_zero, stored, settled_all, accessed, under_reset, cycle_of}
@@ -21,26 +23,26 @@ pub gates_low : Levels
 gates_low = record { c1 = true; c2 = true; c3 = true; g1 = false; g2 = false; g3 = false; reset = true }
 
 -- no access
-abbrev idle : Access
-idle = record { present = false; read = false; register = 0; byte = 0 }
+abbrev idle : Option Access
+idle = None
 
-pub reading : ℕ → Access
-reading r = record { present = true; read = true; register = r; byte = 0 }
+pub reading : ℕ → Option Access
+reading r = Some (record { read = true; register = r; byte = 0 })
 
-pub writing : ℕ → ℕ → Access
-writing r v = record { present = true; read = false; register = r; byte = v }
+pub writing : ℕ → ℕ → Option Access
+writing r v = Some (record { read = false; register = r; byte = v })
 
 -- the chip after a cycle for each of the accesses
-pub after : List Access → Ptm → Ptm
+pub after : List (Option Access) → Ptm → Ptm
 after [] p = p
 after (a ∷ rest) p = after rest (cycle_of gates_low a p).chip
 
--- what those cycles answer, and the composite flag after each
-pub answers : List Access → Ptm → List ℕ
+-- what the places of those cycles' answers have, and the composite flag after each
+pub answers : List (Option Access) → Ptm → List ℕ
 answers [] p = []
-answers (a ∷ rest) p = (cycle_of gates_low a p).answer ∷ answers rest (cycle_of gates_low a p).chip
+answers (a ∷ rest) p = place_of (cycle_of gates_low a p).answer ∷ answers rest (cycle_of gates_low a p).chip
 
-pub composites : List Access → Ptm → List Bool
+pub composites : List (Option Access) → Ptm → List Bool
 composites [] p = []
 composites (a ∷ rest) p = composite_of (cycle_of gates_low a p).chip ∷ composites rest (cycle_of gates_low a p).chip
 
@@ -50,7 +52,7 @@ unfolding rules gates_low writing after
 begun = after (writing 1 1 ∷ writing 2 0 ∷ writing 3 3 ∷ writing 0 194 ∷ []) start_of
 
 -- clocks 1 to 4, then what is done in 5, 6 and 7
-pub clocks : Access → Access → Access → List Access
+pub clocks : Option Access → Option Access → Option Access → List (Option Access)
 clocks five six seven = idle ∷ idle ∷ idle ∷ idle ∷ five ∷ six ∷ seven ∷ []
 
 -- Run 9: status in clock 5 reads 129, MSB in 6 reads 0, LSB in 7 reads 1; IRQ freed in 6.

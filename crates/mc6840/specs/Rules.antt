@@ -1,5 +1,5 @@
 -- The sections "One cycle" and "Registers" of document 01, for the 6840, a definition for each rule, in its words.
-use Rattle.std.specs.Prelude.{ℕ, ◌+◌, ◌*◌, Bool, false, cond, ◌&&◌, ◌||◌, [], ◌∷◌, eqb}
+use Rattle.std.specs.Prelude.{ℕ, ◌+◌, ◌*◌, Bool, false, cond, ◌&&◌, ◌||◌, [], ◌∷◌, eqb, Option, Some, None}
 use Rattle.timer.specs.declared.Setting.{Setting}
 use Rattle.timer.specs.Fields.{bit, msb as upper, lsb as lower}
 use Rattle.timer.specs.Rules.{cycle_of as timer_cycle, settled, latch_written, control_written, armed_by, msb_read, reset_state, pin_of, asks, fits}
@@ -7,7 +7,7 @@ use Rattle.mc6840.specs.declared.Ptm.{Ptm}
 use Rattle.signals.specs.declared.m6840.Levels.{Levels}
 use Rattle.signals.specs.declared.m6840.Access.{Access}
 use Rattle.mc6840.specs.declared.Outputs.{Outputs}
-use Rattle.mc6840.specs.declared.Done.{Done}
+use Rattle.signals.specs.declared.Done.{Done}
 use Rattle.mc6840.specs.Fields.{timer_at, with_timer, with_msb, with_lsb, done}
 use Rattle.signals.specs.Words6840.{all_high, levels_of}
 
@@ -67,16 +67,16 @@ unfoldable pub msb_read_at : ℕ → Ptm → Ptm
 msb_read_at i p = with_lsb (lower (timer_at i p).counter) (with_timer i (msb_read (timer_at i p)) p)
 
 -- Read 0 drives nothing, 1 status, 2/4/6 counter MSB, 3/5/7 the one LSB buffer.
-unfoldable pub driven : ℕ → Ptm → ℕ
+unfoldable pub driven : ℕ → Ptm → Option ℕ
 driven n p =
-    cond (eqb n 1) (status_of p)
-    (cond (eqb n 2) (upper (timer_at 0 p).counter)
-    (cond (eqb n 4) (upper (timer_at 1 p).counter)
-    (cond (eqb n 6) (upper (timer_at 2 p).counter)
-    (cond (eqb n 3) p.lsb
-    (cond (eqb n 5) p.lsb
-    (cond (eqb n 7) p.lsb
-    256))))))
+    cond (eqb n 1) (Some (status_of p))
+    (cond (eqb n 2) (Some (upper (timer_at 0 p).counter))
+    (cond (eqb n 4) (Some (upper (timer_at 1 p).counter))
+    (cond (eqb n 6) (Some (upper (timer_at 2 p).counter))
+    (cond (eqb n 3) (Some p.lsb)
+    (cond (eqb n 5) (Some p.lsb)
+    (cond (eqb n 7) (Some p.lsb)
+    None))))))
 
 -- What a read leaves: 1 arms, 2/4/6 copies the LSB and clears.
 unfoldable pub after_read : ℕ → Ptm → Ptm
@@ -124,19 +124,21 @@ settled_all p = record {
 }
 
 -- Bus access: a read drives its byte; a write drives nothing.
-unfoldable pub accessed : Access → Ptm → Done
-accessed a p =
+unfoldable pub accessed : Option Access → Ptm → Done Ptm
+accessed (Some a) p =
     cond a.read (done (after_read a.register p) (driven a.register p))
-    (done (settled_all (stored a.register a.byte p)) 256)
+    (done (settled_all (stored a.register a.byte p)) None)
+accessed None p = done p None
 
 -- Register reads answer from the reset state with no side effect; writes do nothing.
-unfoldable pub under_reset : Access → Ptm → Done
-under_reset a p = done p (cond (a.present && a.read) (driven a.register p) 256)
+unfoldable pub under_reset : Option Access → Ptm → Done Ptm
+under_reset (Some a) p = done p (cond a.read (driven a.register p) None)
+under_reset None p = done p None
 
 -- Order: sample levels; RESET; gate edges; clocks; bus access.
-unfoldable pub cycle_of : Levels → Access → Ptm → Done
+unfoldable pub cycle_of : Levels → Option Access → Ptm → Done Ptm
 cycle_of l a p =
-    cond l.reset (cond a.present (accessed a (clocked l p)) (done (clocked l p) 256))
+    cond l.reset (accessed a (clocked l p))
     (under_reset a (reset_of l))
 
 -- The report gives O1-O3.

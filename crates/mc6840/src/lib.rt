@@ -4,11 +4,12 @@
 ghost use Rattle.std.specs.Prelude.{◌≡◌, ◌<◌};
 ghost use Rattle.timer.specs.Fields.{bit};
 ghost use Rattle.timer.specs.Rules as timer;
-ghost use Rattle.mc6840.specs.Fields.{with_msb};
+ghost use Rattle.mc6840.specs.Fields.{place_in, timer_at, with_msb};
 ghost use Rattle.mc6840.specs.Rules.{setting_at, reset_of, start_of, clocked, composite_of, status_byte, status_of, armed_all, msb_read_at, driven, after_read, control_at, latch_at, control_zero, stored, settled_all, accessed, under_reset, cycle_of, outputs_of, in_range};
 
-use signals::m6840::{ALL_HIGH, Access, Levels, levels_of};
-use timer::{Setting, Timer};
+use signals::Done;
+use signals::m6840::{ALL_HIGH, Access, Levels};
+use timer::{Setting, Timer, bit};
 
 // The three timers, whose control bytes are CR1 to CR3, the one MSB buffer and the one LSB buffer.
 #[repr(C)]
@@ -27,24 +28,32 @@ pub struct Outputs {
     pub o3: bool,
 }
 
-// The chip after a cycle, and the byte read or 256.
-#[derive(Clone, Copy)]
-pub struct Done {
-    pub chip: Ptm,
-    pub answer: u16,
+// One of the three timers.
+#[derive(Clone, Copy, PartialEq, Eq)]
+enum Nth {
+    First,
+    Second,
+    Third,
 }
 
-fn low_bit(x: u32) -> bool
-    ensures { result ≡ bit 0 x }
-{
-    x % 2 == 1
+impl Nth {
+    fn place(self) -> usize
+        ensures value { result ≡ place_in self }
+        ensures bound { result < 3 }
+    {
+        match self {
+            Nth::First => 0,
+            Nth::Second => 1,
+            Nth::Third => 2,
+        }
+    }
 }
 
 #[tactic(auto, unfolding(crate::specs::Rules::status_byte))]
-fn status_byte(first: bool, second: bool, third: bool, any: bool) -> u16
+fn status_byte(first: bool, second: bool, third: bool, any: bool) -> u8
     ensures { result ≡ status_byte first second third any }
 {
-    (first as u16) + 2 * (second as u16) + 4 * (third as u16) + 128 * (any as u16)
+    u8::from(first) + 2 * u8::from(second) + 4 * u8::from(third) + 128 * u8::from(any)
 }
 
 // Divided by 8 a timer never goes the quick way. This second caller also keeps full_cycle a call of its own, so that cycle stays
@@ -62,19 +71,21 @@ fn cycle_third(t: Timer, s: Setting, gate: bool, clock: bool) -> Timer
 }
 
 impl Ptm {
-    // What the chip says of timer 1, 2, 3, at 0, 1, 2.
-    #[tactic(auto, unfolding(crate::specs::Rules::setting_at))]
-    fn setting(self, i: usize) -> Setting
-        requires { i < 3 }
-        ensures { result ≡ setting_at i self }
+    fn control_bit<const K: u32>(self, which: Nth) -> bool
+        ensures { result ≡ bit K (timer_at (place_in which) self).control }
     {
-        let first = self.timers[0];
-        let third = self.timers[2];
-        let t = self.timers[i];
+        bit::<K>(u32::from(self.timers[which.place()].control))
+    }
+
+    // What the chip says of a timer.
+    #[tactic(auto, unfolding(crate::specs::Rules::setting_at))]
+    fn setting(self, which: Nth) -> Setting
+        ensures { result ≡ setting_at (place_in which) self }
+    {
         Setting {
-            held: low_bit(first.control as u32),
-            divided: (i == 2) & low_bit(third.control as u32),
-            dual: t.control / 4 % 2 == 1,
+            held: self.control_bit::<0>(Nth::First),
+            divided: (which == Nth::Third) & self.control_bit::<0>(Nth::Third),
+            dual: self.control_bit::<2>(which),
             cascades: false,
         }
     }
@@ -86,9 +97,8 @@ impl Ptm {
         let first = Timer::reset(1, levels.g1, levels.c1);
         let second = Timer::reset(0, levels.g2, levels.c2);
         let third = Timer::reset(0, levels.g3, levels.c3);
-        let timers = [first, second, third];
         Ptm {
-            timers: timers,
+            timers: [first, second, third],
             msb: 0,
             lsb: 0,
         }
@@ -98,25 +108,21 @@ impl Ptm {
     pub fn start() -> Ptm
         ensures { result ≡ start_of }
     {
-        Ptm::reset(levels_of(ALL_HIGH))
+        Ptm::reset(Levels::from(ALL_HIGH))
     }
 
-    // Gate edges and clocks of the three timers.
+    // Gate edges and clocks of the three timers; each is written out, as the third goes its own way.
     #[tactic(auto, unfolding(crate::specs::Rules::clocked))]
     fn clock(self, levels: Levels) -> Ptm
         ensures { result ≡ clocked levels self }
     {
-        let t1 = self.timers[0];
-        let t2 = self.timers[1];
-        let t3 = self.timers[2];
-        let first = t1.cycle(self.setting(0), levels.g1, levels.c1);
-        let second = t2.cycle(self.setting(1), levels.g2, levels.c2);
-        let third = cycle_third(t3, self.setting(2), levels.g3, levels.c3);
-        let timers = [first, second, third];
+        let [t1, t2, t3] = self.timers;
+        let first = t1.cycle(self.setting(Nth::First), levels.g1, levels.c1);
+        let second = t2.cycle(self.setting(Nth::Second), levels.g2, levels.c2);
+        let third = cycle_third(t3, self.setting(Nth::Third), levels.g3, levels.c3);
         Ptm {
-            timers: timers,
-            msb: self.msb,
-            lsb: self.lsb,
+            timers: [first, second, third],
+            ..self
         }
     }
 
@@ -125,19 +131,14 @@ impl Ptm {
     pub fn composite(self) -> bool
         ensures { result ≡ composite_of self }
     {
-        let t1 = self.timers[0];
-        let t2 = self.timers[1];
-        let t3 = self.timers[2];
-        t1.interrupts() | t2.interrupts() | t3.interrupts()
+        self.timers.iter().any(|t| t.interrupts())
     }
 
     #[tactic(auto, unfolding(crate::specs::Rules::status_of))]
-    fn status(self) -> u16
+    fn status(self) -> u8
         ensures { result ≡ status_of self }
     {
-        let t1 = self.timers[0];
-        let t2 = self.timers[1];
-        let t3 = self.timers[2];
+        let [t1, t2, t3] = self.timers;
         status_byte(t1.flag, t2.flag, t3.flag, self.composite())
     }
 
@@ -145,46 +146,35 @@ impl Ptm {
     fn arm(self) -> Ptm
         ensures { result ≡ armed_all self }
     {
-        let t1 = self.timers[0];
-        let t2 = self.timers[1];
-        let t3 = self.timers[2];
-        let timers = [t1.arm(), t2.arm(), t3.arm()];
         Ptm {
-            timers: timers,
-            msb: self.msb,
-            lsb: self.lsb,
+            timers: self.timers.map(|t| t.arm()),
+            ..self
         }
     }
 
     #[tactic(auto, unfolding(crate::specs::Rules::msb_read_at))]
-    fn read_msb(mut self, i: usize) -> Ptm
-        requires { i < 3 }
-        ensures { result ≡ msb_read_at i self }
+    fn read_msb(mut self, which: Nth) -> Ptm
+        ensures { result ≡ msb_read_at (place_in which) self }
     {
-        let t = self.timers[i];
-        let after = t.read_msb();
-        self.timers[i] = after;
-        self.lsb = t.counter_lsb();
+        let i = which.place();
+        self.lsb = self.timers[i].counter_lsb();
+        self.timers[i] = self.timers[i].read_msb();
         self
     }
 
-    // What a read of a register drives: its byte, or 256 for nothing.
+    // What a read of a register drives. Registers go by their numbers, as the chip's table has them: an enum would be a second table.
     #[tactic(auto, unfolding(crate::specs::Rules::driven))]
-    fn drive(self, register: u8) -> u16
+    fn drive(self, register: u8) -> Option<u8>
         ensures { result ≡ driven register self }
     {
-        let t1 = self.timers[0];
-        let t2 = self.timers[1];
-        let t3 = self.timers[2];
+        let [t1, t2, t3] = self.timers;
         match register {
-            1 => self.status(),
-            2 => t1.counter_msb() as u16,
-            4 => t2.counter_msb() as u16,
-            6 => t3.counter_msb() as u16,
-            3 => self.lsb as u16,
-            5 => self.lsb as u16,
-            7 => self.lsb as u16,
-            _ => 256,
+            1 => Some(self.status()),
+            2 => Some(t1.counter_msb()),
+            4 => Some(t2.counter_msb()),
+            6 => Some(t3.counter_msb()),
+            3 | 5 | 7 => Some(self.lsb),
+            _ => None,
         }
     }
 
@@ -194,33 +184,30 @@ impl Ptm {
     {
         match register {
             1 => self.arm(),
-            2 => self.read_msb(0),
-            4 => self.read_msb(1),
-            6 => self.read_msb(2),
+            2 => self.read_msb(Nth::First),
+            4 => self.read_msb(Nth::Second),
+            6 => self.read_msb(Nth::Third),
             _ => self,
         }
     }
 
     #[tactic(auto, unfolding(crate::specs::Rules::control_at))]
-    fn write_control(mut self, i: usize, value: u8) -> Ptm
-        requires { i < 3 }
-        ensures { result ≡ control_at i value self }
+    fn write_control(mut self, which: Nth, value: u8) -> Ptm
+        ensures { result ≡ control_at (place_in which) value self }
     {
-        let t = self.timers[i];
-        let after = t.write_control(value);
-        self.timers[i] = after;
+        let i = which.place();
+        self.timers[i] = self.timers[i].write_control(value);
         self
     }
 
     // W, with the MSB buffer.
     #[tactic(auto, unfolding(crate::specs::Rules::latch_at))]
-    fn write_latch(mut self, i: usize, value: u8) -> Ptm
-        requires { i < 3 }
-        ensures { result ≡ latch_at i value self }
+    fn write_latch(mut self, which: Nth, value: u8) -> Ptm
+        ensures { result ≡ latch_at (place_in which) value self }
     {
-        let t = self.timers[i];
-        let after = t.write_latch(self.setting(i), (self.msb as u16) * 256 + (value as u16));
-        self.timers[i] = after;
+        let i = which.place();
+        let latch = u16::from_be_bytes([self.msb, value]);
+        self.timers[i] = self.timers[i].write_latch(self.setting(which), latch);
         self
     }
 
@@ -236,11 +223,10 @@ impl Ptm {
     fn write_zero(self, value: u8) -> Ptm
         ensures { result ≡ control_zero value self }
     {
-        let second = self.timers[1];
-        if low_bit(second.control as u32) {
-            return self.write_control(0, value);
+        if self.control_bit::<0>(Nth::Second) {
+            return self.write_control(Nth::First, value);
         }
-        self.write_control(2, value)
+        self.write_control(Nth::Third, value)
     }
 
     #[tactic(auto, unfolding(crate::specs::Rules::stored))]
@@ -249,13 +235,11 @@ impl Ptm {
     {
         match register {
             0 => self.write_zero(value),
-            1 => self.write_control(1, value),
-            2 => self.write_msb(value),
-            4 => self.write_msb(value),
-            6 => self.write_msb(value),
-            3 => self.write_latch(0, value),
-            5 => self.write_latch(1, value),
-            7 => self.write_latch(2, value),
+            1 => self.write_control(Nth::Second, value),
+            2 | 4 | 6 => self.write_msb(value),
+            3 => self.write_latch(Nth::First, value),
+            5 => self.write_latch(Nth::Second, value),
+            7 => self.write_latch(Nth::Third, value),
             _ => self,
         }
     }
@@ -264,77 +248,61 @@ impl Ptm {
     fn settle(self) -> Ptm
         ensures { result ≡ settled_all self }
     {
-        let t1 = self.timers[0];
-        let t2 = self.timers[1];
-        let t3 = self.timers[2];
-        let first = t1.settle(self.setting(0));
-        let second = t2.settle(self.setting(1));
-        let third = t3.settle(self.setting(2));
-        let timers = [first, second, third];
+        let each = [Nth::First, Nth::Second, Nth::Third];
         Ptm {
-            timers: timers,
-            msb: self.msb,
-            lsb: self.lsb,
+            timers: each.map(|which| self.timers[which.place()].settle(self.setting(which))),
+            ..self
         }
     }
 
+    // A read or a write.
     #[tactic(auto, unfolding(crate::specs::Rules::accessed))]
-    fn access(self, access: Access) -> Done
-        ensures { result ≡ accessed access self }
+    fn transfer(self, asked: Access) -> Done<Ptm>
+        ensures { result ≡ accessed (Some asked) self }
     {
-        if access.read {
-            let after = self.after_read(access.register);
+        if asked.read {
             return Done {
-                chip: after,
-                answer: self.drive(access.register),
+                chip: self.after_read(asked.register),
+                answer: self.drive(asked.register),
             };
         }
-        let after = self.store(access.register, access.byte).settle();
         Done {
-            chip: after,
-            answer: 256,
+            chip: self.store(asked.register, asked.byte).settle(),
+            answer: None,
         }
     }
 
     // RESET low: a read answers and leaves all alone, a write does nothing.
     #[tactic(auto, unfolding(crate::specs::Rules::under_reset))]
-    fn stay(self, access: Access) -> Done
+    fn stay(self, access: Option<Access>) -> Done<Ptm>
         ensures { result ≡ under_reset access self }
     {
-        if access.present & access.read {
-            return Done {
-                chip: self,
-                answer: self.drive(access.register),
-            };
-        }
+        let read = access.filter(|asked| asked.read);
         Done {
             chip: self,
-            answer: 256,
+            answer: read.and_then(|asked| self.drive(asked.register)),
         }
     }
 
-    // One cycle: RESET, or gate edges and clocks and then the bus access, on copies.
-    #[tactic(auto, unfolding(crate::specs::Rules::cycle_of))]
-    pub fn cycle(self, levels: Levels, access: Access) -> Done
+    // One cycle: RESET, or gate edges and clocks and then the bus access, on copies, so that what is quiet stays in registers.
+    #[tactic(auto, unfolding(crate::specs::Rules::cycle_of, crate::specs::Rules::accessed))]
+    pub fn cycle(self, levels: Levels, access: Option<Access>) -> Done<Ptm>
         ensures { result ≡ cycle_of levels access self }
     {
-        if levels.reset {
-            let after = self.clock(levels);
-            if access.present {
-                let chip = after;
-                let asked = access;
-                let done = chip.access(asked);
-                return done;
-            }
+        if !levels.reset {
+            let low = Ptm::reset(levels);
+            let given = access;
+            return low.stay(given);
+        }
+        let after = self.clock(levels);
+        let Some(asked) = access else {
             return Done {
                 chip: after,
-                answer: 256,
+                answer: None,
             };
-        }
-        let low = Ptm::reset(levels);
-        let asked = access;
-        let done = low.stay(asked);
-        done
+        };
+        let chip = after;
+        chip.transfer(asked)
     }
 
     // The pins O1 to O3.
@@ -342,13 +310,11 @@ impl Ptm {
     pub fn outputs(self) -> Outputs
         ensures { result ≡ outputs_of self }
     {
-        let t1 = self.timers[0];
-        let t2 = self.timers[1];
-        let t3 = self.timers[2];
+        let [t1, t2, t3] = self.timers;
         Outputs {
-            o1: t1.pin(self.setting(0)),
-            o2: t2.pin(self.setting(1)),
-            o3: t3.pin(self.setting(2)),
+            o1: t1.pin(self.setting(Nth::First)),
+            o2: t2.pin(self.setting(Nth::Second)),
+            o3: t3.pin(self.setting(Nth::Third)),
         }
     }
 
@@ -357,9 +323,6 @@ impl Ptm {
     pub fn in_range(self) -> bool
         ensures { result ≡ in_range self }
     {
-        let t1 = self.timers[0];
-        let t2 = self.timers[1];
-        let t3 = self.timers[2];
-        t1.in_range() & t2.in_range() & t3.in_range()
+        self.timers.iter().all(|t| t.in_range())
     }
 }

@@ -2,6 +2,7 @@
 use Prim.Native.Nat.{ℕ}
 use mathlib.Core.Path.{◌≡◌, refl, ap, ◌∙◌}
 use mathlib.Core.Bool.{Bool, true, false, not, cond, ◌&&◌}
+use Rattle.std.specs.Prelude.{Option, Some, None}
 use mathlib.Core.List.{List}
 use lib.Dec.{eqb}
 use Rattle.timer.specs.Fields.{bit}
@@ -11,7 +12,7 @@ use Rattle.mc6846.specs.declared.Combo.{Combo}
 use Rattle.signals.specs.declared.m6846.Levels.{Levels}
 use Rattle.signals.specs.declared.m6846.Access.{Access}
 use Rattle.mc6846.specs.declared.Select.{Select}
-use Rattle.mc6846.specs.declared.Done.{Done}
+use Rattle.signals.specs.declared.Done.{Done}
 use Rattle.signals.specs.Words6846.{all_high, levels_of}
 use Rattle.mc6846.specs.Port.{cp1_edge, capturing, flagged, marked, released, touched_by, pdr_written, port_cleared, port_settled, cp2_out, cp2_of}
 use Rattle.mc6846.specs.Registers.{rom_chosen, io_chosen, status_read, counter_read, after_read, pcr_written, tcr_written, lsb_written, stored, timer_settled, after_write}
@@ -60,15 +61,13 @@ write_seen : (r v : ℕ) (c : Combo) → seen (after_write r v c) ≡ seen c
 unfolding after_write
 write_seen r v c = timer_seen _ ∙ port_seen _ ∙ stored_seen r v c
 
-module _ (s : Select) (rom : List ℕ) (a : Access) (c : Combo) where
-  access_seen : seen (accessed s rom a c).chip ≡ seen c
-  unfolding accessed transferred read_by written_by
-  access_seen =
-      either (λ (d : Done). seen d.chip) a.present _ _ _
-      (either (λ (d : Done). seen d.chip) a.read _ _ _
-      (either (λ (d : Done). seen d.chip) (rom_chosen s a) _ _ _ refl (either (λ (d : Done). seen d.chip) (io_chosen s a) _ _ _ (read_seen _ c) refl))
-      (either (λ (d : Done). seen d.chip) (io_chosen s a) _ _ _ (write_seen _ _ c) refl))
-      refl
+access_seen : (s : Select) (rom : List ℕ) (a : Option Access) (c : Combo) → seen (accessed s rom a c).chip ≡ seen c
+unfolding accessed transferred read_by written_by
+access_seen s rom None c = refl
+access_seen s rom (Some a) c =
+    either (λ (d : Done Combo). seen d.chip) a.read _ _ _
+    (either (λ (d : Done Combo). seen d.chip) (rom_chosen s a) _ _ _ refl (either (λ (d : Done Combo). seen d.chip) (io_chosen s a) _ _ _ (read_seen _ c) refl))
+    (either (λ (d : Done Combo). seen d.chip) (io_chosen s a) _ _ _ (write_seen _ _ c) refl)
 
 sampled_seen : (l : Levels) (c : Combo) → seen (sampled l c) ≡ given l
 unfolding sampled
@@ -91,18 +90,18 @@ unfolding reset_of
 reset_seen l = refl
 
 -- After any cycle the levels last sampled are that cycle's.
-pub cycle_seen : (s : Select) (rom : List ℕ) (l : Levels) (a : Access) (c : Combo) → seen (cycle_of s rom l a c).chip ≡ given l
+pub cycle_seen : (s : Select) (rom : List ℕ) (l : Levels) (a : Option Access) (c : Combo) → seen (cycle_of s rom l a c).chip ≡ given l
 unfolding cycle_of reset_cycle
 cycle_seen s rom l a c =
-    either (λ (d : Done). seen d.chip) l.reset _ _ _ (shown_seen _ ∙ access_seen s rom a _ ∙ clocked_seen l _ ∙ edged_seen _ ∙ sampled_seen l c) (reset_seen l)
+    either (λ (d : Done Combo). seen d.chip) l.reset _ _ _ (shown_seen _ ∙ access_seen s rom a _ ∙ clocked_seen l _ ∙ edged_seen _ ∙ sampled_seen l c) (reset_seen l)
 
-pub cycle-pins : (s : Select) (rom : List ℕ) (l : Levels) (a : Access) (c : Combo) → (cycle_of s rom l a c).chip.pins ≡ l.pins
+pub cycle-pins : (s : Select) (rom : List ℕ) (l : Levels) (a : Option Access) (c : Combo) → (cycle_of s rom l a c).chip.pins ≡ l.pins
 cycle-pins s rom l a c = ap (λ (k : Seen). k.pins) (cycle_seen s rom l a c)
 
-pub cycle-cp1 : (s : Select) (rom : List ℕ) (l : Levels) (a : Access) (c : Combo) → (cycle_of s rom l a c).chip.cp1 ≡ l.cp1
+pub cycle-cp1 : (s : Select) (rom : List ℕ) (l : Levels) (a : Option Access) (c : Combo) → (cycle_of s rom l a c).chip.cp1 ≡ l.cp1
 cycle-cp1 s rom l a c = ap (λ (k : Seen). k.cp1) (cycle_seen s rom l a c)
 
-pub cycle-cp2 : (s : Select) (rom : List ℕ) (l : Levels) (a : Access) (c : Combo) → (cycle_of s rom l a c).chip.cp2 ≡ l.cp2
+pub cycle-cp2 : (s : Select) (rom : List ℕ) (l : Levels) (a : Option Access) (c : Combo) → (cycle_of s rom l a c).chip.cp2 ≡ l.cp2
 cycle-cp2 s rom l a c = ap (λ (k : Seen). k.cp2) (cycle_seen s rom l a c)
 
 -- The prescaler stays in 0 to 7 through every stage when it was.
@@ -131,15 +130,13 @@ write-fits : (r v : ℕ) (c : Combo) → fit c ≡ true → fit (after_write r v
 unfolding after_write
 write-fits r v c p = timer-fits _ (port-fits _ (stored-fits r v c p))
 
-module _ (s : Select) (rom : List ℕ) (a : Access) (c : Combo) (p : fit c ≡ true) where
-  access-fits : fit (accessed s rom a c).chip ≡ true
-  unfolding accessed transferred read_by written_by
-  access-fits =
-      either (λ (d : Done). fit d.chip) a.present _ _ _
-      (either (λ (d : Done). fit d.chip) a.read _ _ _
-      (either (λ (d : Done). fit d.chip) (rom_chosen s a) _ _ _ p (either (λ (d : Done). fit d.chip) (io_chosen s a) _ _ _ (read_fits _ c p) p))
-      (either (λ (d : Done). fit d.chip) (io_chosen s a) _ _ _ (write-fits _ _ c p) p))
-      p
+access-fits : (s : Select) (rom : List ℕ) (a : Option Access) (c : Combo) → fit c ≡ true → fit (accessed s rom a c).chip ≡ true
+unfolding accessed transferred read_by written_by
+access-fits s rom None c p = p
+access-fits s rom (Some a) c p =
+    either (λ (d : Done Combo). fit d.chip) a.read _ _ _
+    (either (λ (d : Done Combo). fit d.chip) (rom_chosen s a) _ _ _ p (either (λ (d : Done Combo). fit d.chip) (io_chosen s a) _ _ _ (read_fits _ c p) p))
+    (either (λ (d : Done Combo). fit d.chip) (io_chosen s a) _ _ _ (write-fits _ _ c p) p)
 
 sampled-fits : (l : Levels) (c : Combo) → fit c ≡ true → fit (sampled l c) ≡ true
 unfolding sampled
@@ -162,10 +159,10 @@ unfolding reset_of
 reset-in-range l = reset_fits 1 l.gate l.clock
 
 -- A cycle keeps the chip in range.
-pub cycle_in_range : (s : Select) (rom : List ℕ) (l : Levels) (a : Access) (c : Combo) → in_range c ≡ true → in_range (cycle_of s rom l a c).chip ≡ true
+pub cycle_in_range : (s : Select) (rom : List ℕ) (l : Levels) (a : Option Access) (c : Combo) → in_range c ≡ true → in_range (cycle_of s rom l a c).chip ≡ true
 unfolding in_range cycle_of reset_cycle
 cycle_in_range s rom l a c p =
-    either (λ (d : Done). fit d.chip) l.reset _ _ _ (shown-fits _ (access-fits s rom a _ (clocked-fits l _ (edged-fits _ (sampled-fits l c p))))) (reset-in-range l)
+    either (λ (d : Done Combo). fit d.chip) l.reset _ _ _ (shown-fits _ (access-fits s rom a _ (clocked-fits l _ (edged-fits _ (sampled-fits l c p))))) (reset-in-range l)
 
 -- Start is in range.
 pub start_in_range : in_range start_of ≡ true
@@ -173,18 +170,17 @@ unfolding in_range
 start_in_range = reset-in-range (levels_of all_high)
 
 -- Where nothing is asked, nothing is driven.
-silent : (s : Select) (rom : List ℕ) (a : Access) (c : Combo) → a.present ≡ false → accessed s rom a c ≡ record { chip = c; answer = 256 }
+pub silent : (s : Select) (rom : List ℕ) (c : Combo) → accessed s rom None c ≡ record { chip = c; answer = None }
 unfolding accessed
-silent s rom a c p = rw p
+silent s rom c = refl
 
--- A cycle without access answers 256.
-pub cycle_silent : (s : Select) (rom : List ℕ) (l : Levels) (a : Access) (c : Combo) → a.present ≡ false → (cycle_of s rom l a c).answer ≡ 256
-unfolding cycle_of reset_cycle
-cycle_silent s rom l a c p =
-    either (λ (d : Done). d.answer) l.reset _ _ _ (ap (λ (d : Done). d.answer) (silent s rom a _ p)) (ap (λ (d : Done). d.answer) (silent s rom a _ p))
+-- A cycle without access drives nothing.
+pub cycle_silent : (s : Select) (rom : List ℕ) (l : Levels) (c : Combo) → (cycle_of s rom l None c).answer ≡ None
+unfolding cycle_of reset_cycle accessed
+cycle_silent s rom l c = either (λ (d : Done Combo). d.answer) l.reset _ _ _ refl refl
 
 -- With RESET low the chip after the cycle is the reset state with those levels, whatever it was.
-pub cycle_reset : (s : Select) (rom : List ℕ) (l : Levels) (a : Access) (c : Combo) → l.reset ≡ false → (cycle_of s rom l a c).chip ≡ reset_of l
+pub cycle_reset : (s : Select) (rom : List ℕ) (l : Levels) (a : Option Access) (c : Combo) → l.reset ≡ false → (cycle_of s rom l a c).chip ≡ reset_of l
 unfolding cycle_of reset_cycle
 cycle_reset s rom l a c p = rw p
 
@@ -201,10 +197,10 @@ unfolding reset_of cp2_of
 reset-cp2 l = refl
 
 -- After any cycle the level kept for CP2 is the one that CP2 out gives.
-pub cycle_shown : (s : Select) (rom : List ℕ) (l : Levels) (a : Access) (c : Combo) → cp2_of (cycle_of s rom l a c).chip ≡ cp2_shown (cycle_of s rom l a c).chip
+pub cycle_shown : (s : Select) (rom : List ℕ) (l : Levels) (a : Option Access) (c : Combo) → cp2_of (cycle_of s rom l a c).chip ≡ cp2_shown (cycle_of s rom l a c).chip
 unfolding cycle_of reset_cycle
 cycle_shown s rom l a c =
-    both (λ (d : Done). cp2_of d.chip ≡ cp2_shown d.chip) l.reset _ _ (shown-cp2 _) (reset-cp2 l)
+    both (λ (d : Done Combo). cp2_of d.chip ≡ cp2_shown d.chip) l.reset _ _ (shown-cp2 _) (reset-cp2 l)
 
 -- Start's CTO is low.
 pub start-cto : cto_of start_of ≡ false

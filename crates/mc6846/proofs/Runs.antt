@@ -2,6 +2,7 @@
 use Prim.Native.Nat.{ℕ}
 use mathlib.Core.Path.{◌≡◌, refl}
 use mathlib.Core.Bool.{Bool, true, false}
+use Rattle.std.specs.Prelude.{Option, Some, None}
 use mathlib.Core.List.{List, [], ◌∷◌}
 use Rattle.timer.specs.Rules.{divider_after, mode_of, initialised, held, settled, written, latch_written, started, caught, fell, loads, rose, gated, fallen, enabled, level_after, timed_out, counted_down, free_cycle, pin_in, control_written, msb_read}
 use Rattle.timer.specs.Rules as timer
@@ -9,7 +10,8 @@ use Rattle.mc6846.specs.declared.Combo.{Combo}
 use Rattle.signals.specs.declared.m6846.Levels.{Levels}
 use Rattle.signals.specs.declared.m6846.Access.{Access}
 use Rattle.mc6846.specs.declared.Select.{Select}
-use Rattle.mc6846.specs.declared.Done.{Done}
+use Rattle.signals.specs.declared.Done.{Done}
+use Rattle.signals.specs.Words.{place_of}
 use Rattle.signals.specs.Words6846.{levels_of}
 use Rattle.mc6846.specs.Port as port
 use Rattle.mc6846.specs.Registers as registers
@@ -31,30 +33,30 @@ codes : Select
 codes = record { rom = 0; io = 1; a6 = 0; extra = 0 }
 
 -- no access
-abbrev idle : Access
-idle = record { present = false; read = false; code = 0; address = 0; byte = 0 }
+abbrev idle : Option Access
+idle = None
 
-writes : ℕ → ℕ → Access
-writes r v = record { present = true; read = false; code = 1; address = r; byte = v }
+writes : ℕ → ℕ → Option Access
+writes r v = Some (record { read = false; code = 1; address = r; byte = v })
 
-reads : ℕ → Access
-reads r = record { present = true; read = true; code = 1; address = r; byte = 0 }
+reads : ℕ → Option Access
+reads r = Some (record { read = true; code = 1; address = r; byte = 0 })
 
 -- gate low, pins 60
 low : Levels
 low = record { pins = 60; cp1 = true; cp2 = true; gate = false; clock = true; reset = true }
 
-next : Access → Combo → Done
+next : Option Access → Combo → Done Combo
 next a c = cycle_of codes [] low a c
 
--- the chip after a cycle for each access, and the answers
-after : List Access → Combo → Combo
+-- the chip after a cycle for each access, and what the answers' places have
+after : List (Option Access) → Combo → Combo
 after [] c = c
 after (a ∷ more) c = after more (next a c).chip
 
-answers : List Access → Combo → List ℕ
+answers : List (Option Access) → Combo → List ℕ
 answers [] c = []
-answers (a ∷ more) c = (next a c).answer ∷ answers more (next a c).chip
+answers (a ∷ more) c = place_of (next a c).answer ∷ answers more (next a c).chip
 
 -- 8. DDR 15, PDR write 165, pins 60: read 53.
 run_8 : answers (writes 1 0 ∷ writes 2 15 ∷ writes 3 165 ∷ reads 3 ∷ []) start_of ≡ 256 ∷ 256 ∷ 256 ∷ 53 ∷ []
@@ -97,7 +99,7 @@ edge : ℕ → ℕ → Combo → Combo
 edge p k c = (cycle_of codes [] (struck p) idle (next (writes 1 k) c).chip).chip
 
 -- CP2 after a cycle for each access
-cp2s : List Access → Combo → List Bool
+cp2s : List (Option Access) → Combo → List Bool
 cp2s [] c = []
 cp2s (a ∷ more) c = port.cp2_of (next a c).chip ∷ cp2s more (next a c).chip
 

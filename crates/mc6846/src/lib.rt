@@ -5,11 +5,12 @@ ghost use Rattle.std.specs.Prelude.{◌≡◌, get_or};
 ghost use Rattle.timer.specs.Fields.{bit};
 ghost use Rattle.mc6846.specs.Fields.{with_msb, with_ddr, done};
 ghost use Rattle.mc6846.specs.Port.{mixed, active_edge, cp1_edge, cp2_edge, capturing, flagged, marked, pdr_byte, released, touched_by, pdr_written, port_cleared, port_settled, cp2_out, cp2_of, port_of};
-ghost use Rattle.mc6846.specs.Registers.{setting_of, a6_fits, extra_fits, io_chosen, composite_of, weight, status_of, register_byte, status_read, counter_read, after_read, pcr_written, tcr_written, lsb_written, stored, timer_settled, after_write};
+ghost use Rattle.mc6846.specs.Registers.{setting_of, a6_fits, extra_fits, io_chosen, composite_of, status_of, register_byte, status_read, counter_read, after_read, pcr_written, tcr_written, lsb_written, stored, timer_settled, after_write};
 ghost use Rattle.mc6846.specs.Cycle.{sampled, reset_of, start_of, edged, clocked, read_by, written_by, transferred, accessed, shown, reset_cycle, cycle_of, cto_of, in_range};
 
-use signals::m6846::{ALL_HIGH, Access, Levels, levels_of};
-use timer::{Setting, Timer};
+use signals::Done;
+use signals::m6846::{ALL_HIGH, Access, Levels};
+use timer::{Setting, Timer, bit};
 
 // What the chip keeps from cycle to cycle; strobed, raised and the levels before are made anew in each.
 #[repr(C)]
@@ -22,7 +23,7 @@ pub struct Combo {
     pub pcr: u8,
     pub ddr: u8,
     pub pdr: u8,
-    // the levels that a CP1 edge captured
+    // the levels that a CP1 edge captured; `captured` says whether, as the record that C holds may have any byte, and no Option
     pub capture: u8,
     // the levels of P last sampled
     pub pins: u8,
@@ -46,7 +47,7 @@ pub struct Combo {
     pub driven: bool,
 }
 
-// What selects ROM and I/O: their codes, the A6 option, the extra line.
+// What selects ROM and I/O: their codes, the A6 option, the extra line. Numbers, as the record that C holds may have any byte, and no enum.
 #[repr(C)]
 #[derive(Clone, Copy)]
 pub struct Select {
@@ -56,17 +57,11 @@ pub struct Select {
     pub extra: u8,
 }
 
-// The chip after a cycle, and the byte read or 256.
+// What stands on the bus beside the registers: the select options and the ROM. Select by itself is C's.
 #[derive(Clone, Copy)]
-pub struct Done {
-    pub chip: Combo,
-    pub answer: u16,
-}
-
-fn lowest_bit(word: u32) -> bool
-    ensures { result ≡ bit 0 word }
-{
-    word % 2 == 1
+pub struct Bus<'a> {
+    pub select: Select,
+    pub rom: &'a [u8],
 }
 
 // Output bits from one byte, input bits from the other.
@@ -91,9 +86,10 @@ fn active_edge(rising: bool, before: bool, level: bool) -> bool
 fn setting_of(t: Timer) -> Setting
     ensures { result ≡ setting_of t }
 {
+    let control = u32::from(t.control);
     Setting {
-        held: lowest_bit(t.control as u32),
-        divided: t.control / 4 % 2 == 1,
+        held: bit::<0>(control),
+        divided: bit::<2>(control),
         dual: false,
         cascades: true,
     }
@@ -103,26 +99,26 @@ fn setting_of(t: Timer) -> Setting
 fn fits_a6(option: u8, address: u16) -> bool
     ensures { result ≡ a6_fits option address }
 {
-    let high = address / 64 % 2 == 1;
-    if option == 0 {
-        return !high;
+    let high = bit::<6>(u32::from(address));
+    match option {
+        0 => !high,
+        1 => high,
+        2 => true,
+        _ => false,
     }
-    if option == 1 {
-        return high;
-    }
-    option == 2
 }
 
 #[tactic(auto, unfolding(crate::specs::Registers::extra_fits))]
 fn fits_extra(line: u8, address: u16) -> bool
     ensures { result ≡ extra_fits line address }
 {
+    let address = u32::from(address);
     match line {
         0 => true,
-        7 => address / 128 % 2 == 1,
-        8 => address / 256 % 2 == 1,
-        9 => address / 512 % 2 == 1,
-        10 => address / 1024 % 2 == 1,
+        7 => bit::<7>(address),
+        8 => bit::<8>(address),
+        9 => bit::<9>(address),
+        10 => bit::<10>(address),
         _ => false,
     }
 }
@@ -139,21 +135,7 @@ fn io_chosen(select: Select, access: Access) -> bool
 fn rom_byte(rom: &[u8], address: u16) -> u8
     ensures { result ≡ get_or rom.now address 0 }
 {
-    let at = address as usize;
-    if at < rom.len() {
-        return rom[at];
-    }
-    0
-}
-
-#[tactic(auto, unfolding(crate::specs::Registers::weight))]
-fn weigh(set: bool, value: u8) -> u8
-    ensures { result ≡ weight set value }
-{
-    if set {
-        return value;
-    }
-    0
+    rom.get(usize::from(address)).copied().unwrap_or(0)
 }
 
 impl Combo {
@@ -191,7 +173,13 @@ impl Combo {
     pub fn start() -> Combo
         ensures { result ≡ start_of }
     {
-        Combo::reset(levels_of(ALL_HIGH))
+        Combo::reset(Levels::from(ALL_HIGH))
+    }
+
+    fn pcr_bit<const K: u32>(self) -> bool
+        ensures { result ≡ bit K self.pcr }
+    {
+        bit::<K>(u32::from(self.pcr))
     }
 
     // This cycle's levels, and beside them what the cycle before had.
@@ -213,24 +201,22 @@ impl Combo {
     fn cp1_edge(self) -> bool
         ensures { result ≡ cp1_edge self }
     {
-        !(self.pcr / 128 % 2 == 1) & active_edge(self.pcr / 2 % 2 == 1, self.before1, self.cp1)
+        !self.pcr_bit::<7>() & active_edge(self.pcr_bit::<1>(), self.before1, self.cp1)
     }
 
     #[tactic(auto, unfolding(crate::specs::Port::cp2_edge))]
     fn cp2_edge(self) -> bool
         ensures { result ≡ cp2_edge self }
     {
-        let input = !(self.pcr / 32 % 2 == 1);
-        !(self.pcr / 128 % 2 == 1)
-            & input
-            & active_edge(self.pcr / 16 % 2 == 1, self.before2, self.cp2)
+        let input = !self.pcr_bit::<5>();
+        !self.pcr_bit::<7>() & input & active_edge(self.pcr_bit::<4>(), self.before2, self.cp2)
     }
 
     #[tactic(auto, unfolding(crate::specs::Port::capturing))]
     fn capture_at_edge(mut self) -> Combo
         ensures { result ≡ capturing self }
     {
-        if (self.pcr / 4 % 2 == 1) & !self.captured & self.cp1_edge() {
+        if self.pcr_bit::<2>() & !self.captured & self.cp1_edge() {
             self.captured = true;
             self.capture = self.pins;
             return self;
@@ -244,8 +230,8 @@ impl Combo {
     {
         let one = self.cp1_edge();
         let two = self.cp2_edge();
-        self.flag1 = self.flag1 | one;
-        self.flag2 = self.flag2 | two;
+        self.flag1 |= one;
+        self.flag2 |= two;
         self
     }
 
@@ -268,9 +254,9 @@ impl Combo {
     fn clocks(mut self, levels: Levels) -> Combo
         ensures { result ≡ clocked levels self }
     {
-        let timer = self.timer;
-        let next = timer.cycle(setting_of(timer), levels.gate, levels.clock);
-        self.timer = next;
+        self.timer = self
+            .timer
+            .cycle(setting_of(self.timer), levels.gate, levels.clock);
         self
     }
 
@@ -279,21 +265,19 @@ impl Combo {
     pub fn composite(self) -> bool
         ensures { result ≡ composite_of self }
     {
-        let timer = self.timer;
-        let one = self.flag1 & lowest_bit(self.pcr as u32);
-        let two = self.flag2 & (self.pcr / 8 % 2 == 1) & !(self.pcr / 32 % 2 == 1);
-        timer.interrupts() | (one | two)
+        let one = self.flag1 & self.pcr_bit::<0>();
+        let two = self.flag2 & self.pcr_bit::<3>() & !self.pcr_bit::<5>();
+        self.timer.interrupts() | one | two
     }
 
     #[tactic(auto, unfolding(crate::specs::Registers::weight, crate::specs::Registers::status_of))]
     fn status(self) -> u8
         ensures { result ≡ status_of self }
     {
-        let timer = self.timer;
-        weigh(timer.flag, 1)
-            + weigh(self.flag1, 2)
-            + weigh(self.flag2, 4)
-            + weigh(self.composite(), 128)
+        u8::from(self.timer.flag)
+            + 2 * u8::from(self.flag1)
+            + 4 * u8::from(self.flag2)
+            + 128 * u8::from(self.composite())
     }
 
     #[tactic(auto, unfolding(crate::specs::Port::pdr_byte))]
@@ -306,19 +290,18 @@ impl Combo {
         mix(self.ddr, self.pdr, self.pins)
     }
 
+    // Registers go by their numbers, as the chip's table has them: an enum would be a second table.
     #[tactic(auto, unfolding(crate::specs::Registers::register_byte))]
     fn register_byte(self, register: u16) -> u8
         ensures { result ≡ register_byte register self }
     {
-        let timer = self.timer;
         match register {
-            0 => self.status(),
+            0 | 4 => self.status(),
             1 => self.pcr,
             2 => self.ddr,
             3 => self.pdr_byte(),
-            4 => self.status(),
-            5 => timer.control,
-            6 => timer.counter_msb(),
+            5 => self.timer.control,
+            6 => self.timer.counter_msb(),
             _ => self.lsb,
         }
     }
@@ -327,11 +310,9 @@ impl Combo {
     fn read_status(mut self) -> Combo
         ensures { result ≡ status_read self }
     {
-        let timer = self.timer;
-        let armed = timer.arm();
-        self.timer = armed;
-        self.armed1 = self.armed1 | self.flag1;
-        self.armed2 = self.armed2 | self.flag2;
+        self.timer = self.timer.arm();
+        self.armed1 |= self.flag1;
+        self.armed2 |= self.flag2;
         self
     }
 
@@ -339,10 +320,8 @@ impl Combo {
     fn read_counter(mut self) -> Combo
         ensures { result ≡ counter_read self }
     {
-        let timer = self.timer;
-        let seen = timer.read_msb();
-        self.lsb = timer.counter_lsb();
-        self.timer = seen;
+        self.lsb = self.timer.counter_lsb();
+        self.timer = self.timer.read_msb();
         self
     }
 
@@ -360,8 +339,8 @@ impl Combo {
     fn touch(mut self) -> Combo
         ensures { result ≡ touched_by self }
     {
-        self.flag1 = self.flag1 & !self.armed1;
-        self.flag2 = self.flag2 & !self.armed2;
+        self.flag1 &= !self.armed1;
+        self.flag2 &= !self.armed2;
         self.armed1 = false;
         self.armed2 = false;
         self.touched = true;
@@ -373,9 +352,8 @@ impl Combo {
         ensures { result ≡ after_read register self }
     {
         match register {
-            0 => self.read_status(),
+            0 | 4 => self.read_status(),
             3 => self.release().touch(),
-            4 => self.read_status(),
             6 => self.read_counter(),
             _ => self,
         }
@@ -408,9 +386,7 @@ impl Combo {
     fn write_tcr(mut self, byte: u8) -> Combo
         ensures { result ≡ tcr_written byte self }
     {
-        let timer = self.timer;
-        let next = timer.write_control(byte);
-        self.timer = next;
+        self.timer = self.timer.write_control(byte);
         self
     }
 
@@ -426,10 +402,8 @@ impl Combo {
     fn write_lsb(mut self, byte: u8) -> Combo
         ensures { result ≡ lsb_written byte self }
     {
-        let timer = self.timer;
-        let value = (self.msb as u16) * 256 + (byte as u16);
-        let next = timer.write_latch(setting_of(timer), value);
-        self.timer = next;
+        let value = u16::from_be_bytes([self.msb, byte]);
+        self.timer = self.timer.write_latch(setting_of(self.timer), value);
         self
     }
 
@@ -467,10 +441,10 @@ impl Combo {
     fn settle_port(self) -> Combo
         ensures { result ≡ port_settled self }
     {
-        if self.pcr / 128 % 2 == 1 {
+        if self.pcr_bit::<7>() {
             return self.clear_port();
         }
-        if self.pcr / 4 % 2 == 1 {
+        if self.pcr_bit::<2>() {
             return self;
         }
         self.release()
@@ -480,9 +454,7 @@ impl Combo {
     fn settle_timer(mut self) -> Combo
         ensures { result ≡ timer_settled self }
     {
-        let timer = self.timer;
-        let next = timer.settle(setting_of(timer));
-        self.timer = next;
+        self.timer = self.timer.settle(setting_of(self.timer));
         self
     }
 
@@ -493,73 +465,70 @@ impl Combo {
         self.store(register, byte).settle_port().settle_timer()
     }
 
-    fn answer(self, byte: u16) -> Done
-        ensures { result ≡ done self byte }
+    fn answer(self, answer: Option<u8>) -> Done<Combo>
+        ensures { result ≡ done self answer }
     {
-        Done {
-            chip: self,
-            answer: byte,
-        }
+        Done { chip: self, answer }
     }
 
     #[tactic(auto, unfolding(crate::specs::Cycle::read_by))]
-    fn read(self, select: Select, rom: &[u8], access: Access) -> Done
-        ensures { result ≡ read_by select rom.now access self }
+    fn read(self, bus: Bus<'_>, access: Access) -> Done<Combo>
+        ensures { result ≡ read_by bus.entry.select bus.entry.rom.now access self }
     {
-        if access.code == select.rom {
-            return self.answer(rom_byte(rom, access.address) as u16);
+        if access.code == bus.select.rom {
+            return self.answer(Some(rom_byte(bus.rom, access.address)));
         }
-        if io_chosen(select, access) {
+        if io_chosen(bus.select, access) {
             let register = access.address % 8;
             return self
                 .after_read(register)
-                .answer(self.register_byte(register) as u16);
+                .answer(Some(self.register_byte(register)));
         }
-        self.answer(256)
+        self.answer(None)
     }
 
     #[tactic(auto, unfolding(crate::specs::Cycle::written_by))]
-    fn write(self, select: Select, access: Access) -> Done
+    fn write(self, select: Select, access: Access) -> Done<Combo>
         ensures { result ≡ written_by select access self }
     {
         if io_chosen(select, access) {
             return self
                 .after_write(access.address % 8, access.byte)
-                .answer(256);
+                .answer(None);
         }
-        self.answer(256)
+        self.answer(None)
     }
 
     #[tactic(auto, unfolding(crate::specs::Cycle::transferred))]
-    fn transfer(self, select: Select, rom: &[u8], access: Access) -> Done
-        ensures { result ≡ transferred select rom.now access self }
+    fn transfer(self, bus: Bus<'_>, access: Access) -> Done<Combo>
+        ensures { result ≡ transferred bus.entry.select bus.entry.rom.now access self }
     {
         if access.read {
-            return self.read(select, rom, access);
+            return self.read(bus, access);
         }
-        self.write(select, access)
+        self.write(bus.select, access)
     }
 
+    // On copies, so that a chip that nothing is asked of stays in registers.
     #[tactic(auto, unfolding(crate::specs::Cycle::accessed))]
-    fn serve(self, select: Select, rom: &[u8], access: Access) -> Done
-        ensures { result ≡ accessed select rom.now access self }
+    fn serve(self, bus: Bus<'_>, access: Option<Access>) -> Done<Combo>
+        ensures { result ≡ accessed bus.entry.select bus.entry.rom.now access self }
     {
-        if access.present {
-            let chip = self;
-            let lines = select;
-            let asked = access;
-            let done = chip.transfer(lines, rom, asked);
-            return done;
-        }
-        self.answer(256)
+        let Some(asked) = access else {
+            return self.answer(None);
+        };
+        let chip = self;
+        let lines = bus;
+        let done = chip.transfer(lines, asked);
+        done
     }
 
     #[tactic(auto, unfolding(crate::specs::Port::cp2_out))]
     fn cp2_out(self) -> bool
         ensures { result ≡ cp2_out self }
     {
-        let high = self.pcr / 8 % 2 == 1;
-        if self.pcr / 16 % 2 == 1 {
+        let high = self.pcr_bit::<3>();
+        if self.pcr_bit::<4>() {
             return high;
         }
         if high {
@@ -572,25 +541,24 @@ impl Combo {
     fn show(mut self) -> Combo
         ensures { result ≡ shown self }
     {
-        let level = self.cp2_out();
-        self.driven = level;
+        self.driven = self.cp2_out();
         self
     }
 
     // One cycle: sample, edges, clocks, the bus, what CP2 shows; in RESET the reset state, from which reads answer.
     #[tactic(auto, unfolding(crate::specs::Cycle::cycle_of))]
-    pub fn cycle(self, select: Select, rom: &[u8], levels: Levels, access: Access) -> Done
-        ensures { result ≡ cycle_of select rom.now levels access self }
+    pub fn cycle(self, bus: Bus<'_>, levels: Levels, access: Option<Access>) -> Done<Combo>
+        ensures { result ≡ cycle_of bus.entry.select bus.entry.rom.now levels access self }
     {
-        if levels.reset {
-            let served = self
-                .sample(levels)
-                .edges()
-                .clocks(levels)
-                .serve(select, rom, access);
-            return served.chip.show().answer(served.answer);
+        if !levels.reset {
+            return reset_cycle(bus, levels, access);
         }
-        reset_cycle(select, rom, levels, access)
+        let served = self
+            .sample(levels)
+            .edges()
+            .clocks(levels)
+            .serve(bus, access);
+        served.chip.show().answer(served.answer)
     }
 
     // CTO, the timer's pin.
@@ -598,8 +566,7 @@ impl Combo {
     pub fn cto(self) -> bool
         ensures { result ≡ cto_of self }
     {
-        let timer = self.timer;
-        timer.pin(setting_of(timer))
+        self.timer.pin(setting_of(self.timer))
     }
 
     // CP2: the level driven, or as an input the last sampled.
@@ -607,7 +574,7 @@ impl Combo {
     pub fn cp2_pin(self) -> bool
         ensures { result ≡ cp2_of self }
     {
-        if self.pcr / 32 % 2 == 1 {
+        if self.pcr_bit::<5>() {
             return self.driven;
         }
         self.cp2
@@ -627,19 +594,18 @@ impl Combo {
     pub fn in_range(self) -> bool
         ensures { result ≡ in_range self }
     {
-        let timer = self.timer;
-        timer.in_range()
+        self.timer.in_range()
     }
 }
 
 #[tactic(auto, unfolding(crate::specs::Cycle::reset_cycle, crate::specs::Cycle::accessed))]
-fn reset_cycle(select: Select, rom: &[u8], levels: Levels, access: Access) -> Done
-    ensures { result ≡ reset_cycle select rom.now levels access }
+fn reset_cycle(bus: Bus<'_>, levels: Levels, access: Option<Access>) -> Done<Combo>
+    ensures { result ≡ reset_cycle bus.entry.select bus.entry.rom.now levels access }
 {
     let chip = Combo::reset(levels);
-    if access.present {
-        let seen = chip.transfer(select, rom, access);
-        return chip.answer(seen.answer);
-    }
-    chip.answer(256)
+    let Some(asked) = access else {
+        return chip.answer(None);
+    };
+    let seen = chip.transfer(bus, asked);
+    chip.answer(seen.answer)
 }

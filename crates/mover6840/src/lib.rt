@@ -1,18 +1,19 @@
-// The 6840 in a move: cycle after cycle until all are done or one is refused.
+// The 6840 in a move: how it does its next cycle on the board.
 #![tactic(auto)]
 
 ghost use Rattle.std.specs.Prelude.{◌≡◌};
-ghost use Rattle.outcomes.specs.declared.Outcome.TheVariants.{Done};
-ghost use Rattle.mover6840.specs.Cycle.{world, ran_to, moved, seen, run_of};
+ghost use Rattle.outcomes.specs.Numbers.{Done};
+ghost use Rattle.lists.specs.Moves.{world, went};
+ghost use Rattle.mover6840.specs.Cycle.{seen, step_of};
 
-use lists::{Next, answer, next_6840};
+use lists::moves::{Mover, Run};
+use lists::{answer, next};
 use mc6840::Ptm;
-use outcomes::Outcome;
-use signals::m6840::{Levels, access_of, levels_of};
-use wire::book::{Ends, heard, left};
-use wire::stamp::{listener_waits, next};
+use outcomes::Refusal;
+use signals::m6840::{Levels, access_of};
+use wire::stamp::Stamps;
 
-// What stays through a move: the wire, the 6846's stamp and its CTO.
+// What stays through a move: the wire and whether there is one, the 6846's stamp and its CTO. The law `next_cycle` speaks of each by itself.
 #[derive(Clone, Copy)]
 pub struct Given6840 {
     pub wire: u8,
@@ -21,88 +22,51 @@ pub struct Given6840 {
     pub cto: bool,
 }
 
-// What the cycles change, answers apart; the levels are the word of the last event.
+// The 6840 with its list.
 #[derive(Clone, Copy)]
-pub struct Run6840 {
-    pub chip: Ptm,
-    pub levels: u32,
-    pub stamp: u32,
-    pub done: usize,
-    pub ends: Ends,
+pub struct Mover6840<'a> {
+    pub given: Given6840,
+    pub events: &'a [u32],
 }
 
-// What a move leaves, and what it came to.
-#[derive(Clone, Copy)]
-pub struct Ran6840 {
-    pub run: Run6840,
-    pub outcome: Outcome,
-}
-
-impl Run6840 {
-    // The levels of a cycle, with what CTO was after the cycle before.
-    #[tactic(auto, unfolding(crate::specs::Cycle::seen))]
-    fn see(self, given: Given6840, places: &[u32; 64], levels: u32) -> Levels
-        ensures { result ≡ seen given places.now self levels }
-    {
-        let level = heard(places, self.ends, self.stamp, given.cto);
-        levels_of(levels).wired(given.wire, level)
-    }
-
-    #[tactic(auto, unfolding(crate::specs::Cycle::moved))]
-    fn go_on(self, chip: Ptm, levels: u32, done: usize, ends: Ends) -> Run6840
-        ensures { result ≡ moved chip levels done ends self }
-    {
-        Run6840 {
-            chip: chip,
-            levels: levels,
-            stamp: next(self.stamp),
-            done: done,
-            ends: ends,
-        }
-    }
-
-    fn end(self, outcome: Outcome) -> Ran6840
-        ensures { result ≡ ran_to outcome self }
-    {
-        Ran6840 {
-            run: self,
-            outcome: outcome,
-        }
-    }
-}
-
-pub fn run_6840(
-    run: Run6840,
-    given: Given6840,
-    events: &[u32],
-    answers: &mut [u16],
-    places: &[u32; 64],
-    cycles: u32,
-) -> Ran6840
-    ensures { world result.run answers.new result.outcome ≡ run_of given places.now events.now cycles (world run answers.old Done) }
+// The levels of a cycle, with what CTO was after the cycle before.
+#[tactic(auto, unfolding(crate::specs::Cycle::seen))]
+fn see(given: Given6840, run: Run<Ptm>, places: &[u32; 64], levels: u32) -> Levels
+    ensures { result ≡ seen given places.now run levels }
 {
-    let mut state = run;
-    let mut i: u32 = 0;
-    while i < cycles {
-        let Next::Cycle {
-            levels,
-            access,
-            done,
-        } = next_6840(events, state.done, state.stamp, state.levels)
-        else {
-            return state.end(Outcome::BadEvent);
+    let level = run.ends.heard(places, run.stamp, given.cto);
+    Levels::from(levels).wired(given.wire, level)
+}
+
+impl<'a> Mover for Mover6840<'a> {
+    type Chip = Ptm;
+
+    ghost step_of = { λ m w. step_of m.given m.events.now w };
+
+    fn step(
+        &self,
+        run: Run<Ptm>,
+        answers: &mut [u16],
+        places: &mut [u32; 64],
+    ) -> Result<Run<Ptm>, Refusal>
+        ensures { went run answers.new places.new result ≡ step_of self.now.given self.now.events.now (world run answers.old places.old Done) }
+    {
+        let given = self.given;
+        let Some(cycle) = next::<Levels>(self.events, run.done, run.stamp, run.levels) else {
+            return Err(Refusal::BadEvent);
         };
-        let waits = listener_waits(state.stamp, given.other, given.wired);
+        let stamps = Stamps {
+            listener: run.stamp,
+            driver: given.other,
+        };
+        let waits = stamps.listener_waits(given.wired);
         if waits {
-            return state.end(Outcome::MustWait);
+            return Err(Refusal::MustWait);
         }
-        let after = state
-            .chip
-            .cycle(state.see(given, places, levels), access_of(access));
-        let ends = left(places, state.ends, state.stamp);
-        answer(answers, state.done, done, after.answer);
-        state = state.go_on(after.chip, levels, done, ends);
-        i += 1;
+        let levels = see(given, run, places, cycle.levels);
+        let after = run.chip.cycle(levels, access_of(cycle.access));
+        let ends = run.ends.left(places, run.stamp);
+        answer(answers, run.done, cycle.done, after.answer);
+        Ok(run.go_on(after.chip, cycle.levels, cycle.done, ends))
     }
-    state.end(Outcome::Done)
 }

@@ -1,45 +1,23 @@
 -- A cycle of the 6846 on the board, and a move of it: the sections "Numbers returned" and "Waiting and the wire" of document 01.
-use Rattle.std.specs.Prelude.{ℕ, Bool, not, cond, ◌&&◌, List, leb}
+use Rattle.std.specs.Prelude.{ℕ, Bool, not, cond, ◌&&◌, List, leb, Some, None}
 use Rattle.std.specs.Bool.{beq}
+use Rattle.signals.specs.declared.Done.{Done as After}
+use Rattle.signals.specs.Words.{place_of}
 use Rattle.signals.specs.Words6846.{levels_of, access_of, bad_event}
 use Rattle.wire.specs.declared.book.Ends.{Ends}
 use Rattle.wire.specs.Stamp.{next_stamp, driver_waits}
 use Rattle.wire.specs.Book.{Book, book_of, noted_of}
 use Rattle.mc6846.specs.declared.Combo.{Combo}
-use Rattle.mc6846.specs.declared.Done.{Done as After}
 use Rattle.mc6846.specs.Cycle.{cycle_of, cto_of}
-use Rattle.outcomes.specs.declared.Outcome.{Outcome}
-use Rattle.outcomes.specs.declared.Outcome.TheVariants.{BadEvent, MustWait, BookFull}
-use Rattle.outcomes.specs.Numbers.{goes}
-use Rattle.lists.specs.declared.Next.{Next}
-use Rattle.lists.specs.declared.Next.TheVariants.{Cycle, Bad}
-use Rattle.lists.specs.Run.{run}
-use Rattle.lists.specs.Events.{next_of, answered}
+use Rattle.outcomes.specs.declared.Refusal.TheVariants.{BadEvent, MustWait, BookFull}
+use Rattle.lists.specs.Events.{Next, next_of, answered}
+use Rattle.lists.specs.Moves as moves
+use Rattle.lists.specs.Moves.{world, stopped, moved}
 use Rattle.mover6846.specs.declared.Given6846.{Given6846}
-use Rattle.mover6846.specs.declared.Run6846.{Run6846}
-use Rattle.mover6846.specs.declared.Ran6846.{Ran6846}
 
--- the chip in a move, its answer places, the book's places, and what the move has come to
-pub record World : Type 0 where
-  pub run : Run6846
-  pub answers : List ℕ
-  pub places : List ℕ
-  pub outcome : Outcome
-
-abbrev pub world : Run6846 → List ℕ → List ℕ → Outcome → World
-world r xs ps o = record { run = r; answers = xs; places = ps; outcome = o }
-
--- what a move leaves, and what it came to
-abbrev pub ran_to : Outcome → Run6846 → Ran6846
-ran_to o r = record { run = r; outcome = o }
-
--- The chip stops: nothing else changes.
-unfoldable pub stopped : Outcome → World → World
-stopped o w = world w.run w.answers w.places o
-
--- Each cycle adds one to a chip's stamp.
-unfoldable pub moved : Combo → ℕ → ℕ → Ends → Run6846 → Run6846
-moved chip levels done ends r = record { chip = chip; levels = levels; stamp = next_stamp r.stamp; done = done; ends = ends }
+-- the chip in a move, with its answer places and the book's
+abbrev pub World : Type 0
+World = moves.World Combo
 
 -- With a wire, the cycle changes CTO.
 unfoldable pub changes : Given6846 → Combo → Combo → Bool
@@ -50,35 +28,31 @@ unfoldable pub noted_if : Bool → List ℕ → Ends → ℕ → Book
 noted_if changed places ends stamp = cond changed (noted_of places ends stamp) (book_of places ends)
 
 -- The cycle is done: the chip moves, the event has its answer.
-unfoldable pub noting : ℕ → ℕ → After → Book → World → World
+unfoldable pub noting : ℕ → ℕ → After Combo → Book → World → World
 noting levels done after b w =
-    world (moved after.chip levels done b.ends w.run) (answered w.answers w.run.done done after.answer) b.places w.outcome
+    world (moved after.chip levels done b.ends w.run) (answered w.answers w.run.done done (place_of after.answer)) b.places w.outcome
 
 -- 7: this 6846 cycle changes CTO and 64 changes wait.
-unfoldable pub cycled : Bool → ℕ → ℕ → After → World → World
+unfoldable pub cycled : Bool → ℕ → ℕ → After Combo → World → World
 cycled changed levels done after w =
     cond (changed && leb 64 w.run.ends.waiting) (stopped BookFull w)
     (noting levels done after (noted_if changed w.places w.run.ends (next_stamp w.run.stamp)) w)
 
 -- the cycle of an event's words
-abbrev pub after_of : Given6846 → List ℕ → ℕ → ℕ → World → After
+abbrev pub after_of : Given6846 → List ℕ → ℕ → ℕ → World → After Combo
 after_of g rom levels access w = cycle_of g.select rom (levels_of levels) (access_of access) w.run.chip
 
 -- Before each remaining cycle 5, 6, 7: the next event is bad, or the chip must wait, or the cycle is done.
 unfoldable pub next_by : Given6846 → List ℕ → World → Next → World
-next_by g rom w Bad = stopped BadEvent w
-next_by g rom w (Cycle levels access done) =
-    let after = after_of g rom levels access w in
-    cond (driver_waits g.other w.run.stamp) (stopped MustWait w) (cycled (changes g w.run.chip after.chip) levels done after w)
+next_by g rom w None = stopped BadEvent w
+next_by g rom w (Some c) =
+    let after = after_of g rom c.levels c.access w in
+    cond (driver_waits g.other w.run.stamp) (stopped MustWait w) (cycled (changes g w.run.chip after.chip) c.levels c.done after w)
 
 -- The next event is taken apart before each cycle, or the chip stops there.
 unfoldable pub step_of : Given6846 → List ℕ → List ℕ → World → World
 step_of g rom es w = next_by g rom w (next_of bad_event es w.run.done w.run.stamp w.run.levels)
 
--- The chip has not been stopped so far.
-abbrev pub going : World → Bool
-going w = goes w.outcome
-
 -- k cycles are k plain cycles, until one is refused.
 abbrev pub run_of : Given6846 → List ℕ → List ℕ → ℕ → World → World
-run_of g rom es n w = run going (step_of g rom es) n w
+run_of g rom es n w = moves.run_of (step_of g rom es) n w

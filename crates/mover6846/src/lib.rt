@@ -1,17 +1,19 @@
-// The 6846 in a move: cycle after cycle until all are done or one is refused.
+// The 6846 in a move: how it does its next cycle on the board.
 #![tactic(auto)]
 
 ghost use Rattle.std.specs.Prelude.{◌≡◌};
-ghost use Rattle.outcomes.specs.declared.Outcome.TheVariants.{Done};
-ghost use Rattle.mover6846.specs.Cycle.{world, ran_to, moved, changes, noted_if, run_of};
+ghost use Rattle.outcomes.specs.Numbers.{Done};
+ghost use Rattle.lists.specs.Moves.{world, went};
+ghost use Rattle.mover6846.specs.Cycle.{changes, noted_if, step_of};
 ghost use Rattle.wire.specs.Book.{book_of};
 
-use lists::{Next, answer, next_6846};
-use mc6846::{Combo, Select};
-use outcomes::Outcome;
-use signals::m6846::{access_of, levels_of};
-use wire::book::{Ends, noted};
-use wire::stamp::{driver_waits, next};
+use lists::moves::{Mover, Run};
+use lists::{answer, next};
+use mc6846::{Bus, Combo, Select};
+use outcomes::Refusal;
+use signals::m6846::{Levels, access_of};
+use wire::book::Ends;
+use wire::stamp::{self, Stamps};
 
 // What stays through a move: the select options, whether there is a wire, the 6840's stamp.
 #[derive(Clone, Copy)]
@@ -21,21 +23,12 @@ pub struct Given6846 {
     pub other: u32,
 }
 
-// What the cycles change, answers and the book's places apart; the levels are the word of the last event.
+// The 6846 with its ROM and its list.
 #[derive(Clone, Copy)]
-pub struct Run6846 {
-    pub chip: Combo,
-    pub levels: u32,
-    pub stamp: u32,
-    pub done: usize,
-    pub ends: Ends,
-}
-
-// What a move leaves, and what it came to.
-#[derive(Clone, Copy)]
-pub struct Ran6846 {
-    pub run: Run6846,
-    pub outcome: Outcome,
+pub struct Mover6846<'a> {
+    pub given: Given6846,
+    pub rom: &'a [u8],
+    pub events: &'a [u32],
 }
 
 #[tactic(auto, unfolding(crate::specs::Cycle::changes))]
@@ -54,72 +47,49 @@ fn note(places: &mut [u32; 64], ends: Ends, changed: bool, stamp: u32) -> Ends
     ensures { book_of places.new result ≡ noted_if changed places.old ends stamp }
 {
     if changed {
-        return noted(places, ends, stamp);
+        return ends.noted(places, stamp);
     }
     ends
 }
 
-impl Run6846 {
-    #[tactic(auto, unfolding(crate::specs::Cycle::moved))]
-    fn go_on(self, chip: Combo, levels: u32, done: usize, ends: Ends) -> Run6846
-        ensures { result ≡ moved chip levels done ends self }
-    {
-        Run6846 {
-            chip: chip,
-            levels: levels,
-            stamp: next(self.stamp),
-            done: done,
-            ends: ends,
-        }
-    }
+impl<'a> Mover for Mover6846<'a> {
+    type Chip = Combo;
 
-    fn end(self, outcome: Outcome) -> Ran6846
-        ensures { result ≡ ran_to outcome self }
-    {
-        Ran6846 {
-            run: self,
-            outcome: outcome,
-        }
-    }
-}
+    ghost step_of = { λ m w. step_of m.given m.rom.now m.events.now w };
 
-pub fn run_6846(
-    run: Run6846,
-    given: Given6846,
-    rom: &[u8],
-    events: &[u32],
-    answers: &mut [u16],
-    places: &mut [u32; 64],
-    cycles: u32,
-) -> Ran6846
-    ensures { world result.run answers.new places.new result.outcome ≡ run_of given rom.now events.now cycles (world run answers.old places.old Done) }
-{
-    let mut state = run;
-    let mut i: u32 = 0;
-    while i < cycles {
-        let Next::Cycle {
-            levels,
-            access,
-            done,
-        } = next_6846(events, state.done, state.stamp, state.levels)
-        else {
-            return state.end(Outcome::BadEvent);
+    fn step(
+        &self,
+        run: Run<Combo>,
+        answers: &mut [u16],
+        places: &mut [u32; 64],
+    ) -> Result<Run<Combo>, Refusal>
+        ensures { went run answers.new places.new result ≡ step_of self.now.given self.now.rom.now self.now.events.now (world run answers.old places.old Done) }
+    {
+        let given = self.given;
+        let Some(cycle) = next::<Levels>(self.events, run.done, run.stamp, run.levels) else {
+            return Err(Refusal::BadEvent);
         };
-        let waits = driver_waits(given.other, state.stamp);
+        let stamps = Stamps {
+            listener: given.other,
+            driver: run.stamp,
+        };
+        let waits = stamps.driver_waits();
         if waits {
-            return state.end(Outcome::MustWait);
+            return Err(Refusal::MustWait);
         }
-        let after = state
+        let bus = Bus {
+            select: given.select,
+            rom: self.rom,
+        };
+        let after = run
             .chip
-            .cycle(given.select, rom, levels_of(levels), access_of(access));
-        let changed = changes_cto(given, state.chip, after.chip);
-        if changed & (64 <= state.ends.waiting) {
-            return state.end(Outcome::BookFull);
+            .cycle(bus, Levels::from(cycle.levels), access_of(cycle.access));
+        let changed = changes_cto(given, run.chip, after.chip);
+        if changed & (64 <= run.ends.waiting) {
+            return Err(Refusal::BookFull);
         }
-        answer(answers, state.done, done, after.answer);
-        let ends = note(places, state.ends, changed, next(state.stamp));
-        state = state.go_on(after.chip, levels, done, ends);
-        i += 1;
+        answer(answers, run.done, cycle.done, after.answer);
+        let ends = note(places, run.ends, changed, stamp::next(run.stamp));
+        Ok(run.go_on(after.chip, cycle.levels, cycle.done, ends))
     }
-    state.end(Outcome::Done)
 }

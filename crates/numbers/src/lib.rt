@@ -1,110 +1,58 @@
 // Numbers: decimal, or hex after `0x`.
 #![tactic(auto)]
 
-ghost use Rattle.std.specs.Prelude.{◌≡◌, ◌≤◌, drop};
-ghost use Rattle.numbers.specs.Numbers.{digit_of, digits_of, hexed, number_of, good_in, value_in};
+ghost use Rattle.std.specs.Prelude.{◌≡◌, true, false, drop, MatchOption};
+ghost use Rattle.numbers.specs.Numbers.{IsBase, digit_of, after_digit, digits_of, hexed, number_of};
 
-#[derive(Clone, Copy)]
-pub enum Number {
-    Value(u32),
-    Bad,
-}
+use thiserror::Error;
 
-impl Number {
-    pub fn is_good(self) -> bool
-        ensures { result ≡ good_in self }
-    {
-        match self {
-            Number::Value(_) => true,
-            Number::Bad => false,
-        }
-    }
+// A word that says no number of 32 bits.
+#[derive(Clone, Copy, Debug, PartialEq, Eq, Error)]
+#[error("bad number")]
+pub struct BadNumber;
 
-    pub fn value(self) -> u32
-        ensures { result ≡ value_in self }
-    {
-        match self {
-            Number::Value(v) => v,
-            Number::Bad => 0,
-        }
-    }
-}
-
-// The value of a digit of either case; 16 where the byte is none.
-#[tactic(auto, unfolding(crate::specs::Numbers::digit_of))]
-fn digit(byte: u8) -> u64
-    ensures { result ≡ digit_of byte }
+// A value with one more digit of a base, of either case, after it.
+#[tactic(auto, unfolding(crate::specs::Numbers::after_digit, crate::specs::Numbers::digit_of))]
+fn append_digit(value: u32, base: u32, byte: u8) -> Option<u32>
+    requires { IsBase base }
+    ensures { result ≡ after_digit base value (digit_of byte) }
 {
-    if byte < 48 {
-        return 16;
-    }
-    if byte <= 57 {
-        return (byte - 48) as u64;
-    }
-    if byte < 65 {
-        return 16;
-    }
-    if byte <= 70 {
-        return (byte - 55) as u64;
-    }
-    if byte < 97 {
-        return 16;
-    }
-    if byte <= 102 {
-        return (byte - 87) as u64;
-    }
-    16
+    let digit = char::from(byte).to_digit(base)?;
+    value.checked_mul(base)?.checked_add(digit)
 }
 
-// The largest number of 32 bits.
-const LARGEST: u64 = 4294967295;
-
-// The digits of a base from a place on.
-fn digits(text: &[u8], base: u64, at: usize) -> Number
-    requires { base ≤ 16 }
-    ensures { result ≡ digits_of base 0 (drop at text.now) }
+// The digits of a base.
+#[tactic(auto, using(crate::proofs::Reading::digits_step, crate::proofs::Reading::digits_stop, crate::proofs::Reading::digits_end))]
+fn digits(text: &[u8], base: u32) -> Result<u32, BadNumber>
+    requires { IsBase base }
+    ensures { result ≡ digits_of base 0 text.now }
 {
-    let mut value: u64 = 0;
-    let mut i = at;
-    while i < text.len() {
-        let d = digit(text[i]);
-        if base <= d {
-            return Number::Bad;
-        }
-        let next = value * base + d;
-        if LARGEST < next {
-            return Number::Bad;
-        }
-        value = next;
-        i += 1;
+    let mut value = 0;
+    for byte in text {
+        value = append_digit(value, base, *byte).ok_or(BadNumber)?;
     }
-    Number::Value(value as u32)
+    Ok(value)
 }
 
-// Whether a text has the prefix `0x`.
+// What stands after the prefix `0x`, where a text has it.
 #[tactic(auto, unfolding(crate::specs::Numbers::hexed))]
-fn is_hex(text: &[u8]) -> bool
-    ensures { result ≡ hexed text.now }
+fn hex_part(text: &[u8]) -> Option<&[u8]>
+    ensures { MatchOption result (hexed text.now ≡ false) (λ part. (hexed text.now ≡ true) × (part.now ≡ drop 2 text.now)) }
 {
-    if 2 <= text.len() {
-        return (text[0] == b'0') & (text[1] == b'x');
-    }
-    false
+    text.strip_prefix(b"0x")
 }
 
 // The number that a word says.
 #[tactic(auto, unfolding(crate::specs::Numbers::number_of))]
-pub fn read(text: &[u8]) -> Number
+pub fn read(text: &[u8]) -> Result<u32, BadNumber>
     ensures { result ≡ number_of text.now }
 {
-    if is_hex(text) {
-        if 2 < text.len() {
-            return digits(text, 16, 2);
-        }
-        return Number::Bad;
+    let (part, base) = match hex_part(text) {
+        Some(part) => (part, 16),
+        None => (text, 10),
+    };
+    if part.is_empty() {
+        return Err(BadNumber);
     }
-    if 0 < text.len() {
-        return digits(text, 10, 0);
-    }
-    Number::Bad
+    digits(part, base)
 }

@@ -1,13 +1,12 @@
-// What a call comes to, and the number that document 01 gives it.
+// Why a call is refused or stops, and the number that document 01 gives what it comes to.
 #![tactic(auto)]
 
-ghost use Rattle.std.specs.Prelude.{◌≡◌};
-ghost use Rattle.outcomes.specs.Numbers.{number_of, start_number, report_number};
+ghost use Rattle.std.specs.Prelude.{◌≡◌, ℕ};
+ghost use Rattle.outcomes.specs.Numbers.{returned, refusal_number, start_refusal_number, report_refusal_number};
 
-// What a move comes to.
-#[derive(Clone, Copy)]
-pub enum Outcome {
-    Done,
+// Why a move is refused or stops short.
+#[derive(Clone, Copy, PartialEq, Eq, Debug)]
+pub enum Refusal {
     BadRom,
     BadList,
     FewPlaces,
@@ -17,60 +16,76 @@ pub enum Outcome {
     BadBoard,
 }
 
-// What a start comes to.
-#[derive(Clone, Copy)]
-pub enum Begin {
-    Fresh,
+// Why a start is refused.
+#[derive(Clone, Copy, PartialEq, Eq, Debug)]
+pub enum StartRefusal {
     BadOption,
 }
 
-// What a report comes to.
-#[derive(Clone, Copy)]
-pub enum Seen {
-    Levels,
+// Why a report is refused.
+#[derive(Clone, Copy, PartialEq, Eq, Debug)]
+pub enum ReportRefusal {
     Apart,
     BadBoard,
 }
 
-impl Outcome {
-    #[tactic(auto, unfolding(crate::specs::Numbers::number_of))]
-    pub fn number(self) -> u32
-        ensures { result ≡ number_of self }
-    {
+// What has a number.
+pub trait Numbered {
+    ghost number_of: { Self → ℕ };
+
+    fn number(self) -> u32
+        ensures { result ≡ number_of self };
+}
+
+impl Numbered for Refusal {
+    ghost number_of = { refusal_number };
+
+    #[tactic(auto, unfolding(crate::specs::Numbers::refusal_number))]
+    fn number(self) -> u32 {
         match self {
-            Outcome::Done => 0,
-            Outcome::BadRom => 2,
-            Outcome::BadList => 3,
-            Outcome::FewPlaces => 4,
-            Outcome::BadEvent => 5,
-            Outcome::MustWait => 6,
-            Outcome::BookFull => 7,
-            Outcome::BadBoard => 9,
+            Refusal::BadRom => 2,
+            Refusal::BadList => 3,
+            Refusal::FewPlaces => 4,
+            Refusal::BadEvent => 5,
+            Refusal::MustWait => 6,
+            Refusal::BookFull => 7,
+            Refusal::BadBoard => 9,
         }
     }
 }
 
-impl Begin {
-    #[tactic(auto, unfolding(crate::specs::Numbers::start_number))]
-    pub fn number(self) -> u32
-        ensures { result ≡ start_number self }
-    {
+impl Numbered for StartRefusal {
+    ghost number_of = { start_refusal_number };
+
+    #[tactic(auto, unfolding(crate::specs::Numbers::start_refusal_number))]
+    fn number(self) -> u32 {
         match self {
-            Begin::Fresh => 0,
-            Begin::BadOption => 1,
+            StartRefusal::BadOption => 1,
         }
     }
 }
 
-impl Seen {
-    #[tactic(auto, unfolding(crate::specs::Numbers::report_number))]
-    pub fn number(self) -> u32
-        ensures { result ≡ report_number self }
-    {
+impl Numbered for ReportRefusal {
+    ghost number_of = { report_refusal_number };
+
+    #[tactic(auto, unfolding(crate::specs::Numbers::report_refusal_number))]
+    fn number(self) -> u32 {
         match self {
-            Seen::Levels => 0,
-            Seen::Apart => 8,
-            Seen::BadBoard => 9,
+            ReportRefusal::Apart => 8,
+            ReportRefusal::BadBoard => 9,
+        }
+    }
+}
+
+// A call that is done has the number 0.
+impl<T: Drop, E: Numbered> Numbered for Result<T, E> {
+    ghost number_of = { returned E.number_of };
+
+    #[tactic(auto, unfolding(crate::specs::Numbers::returned))]
+    fn number(self) -> u32 {
+        match self {
+            Ok(_) => 0,
+            Err(refusal) => refusal.number(),
         }
     }
 }

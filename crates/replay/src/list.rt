@@ -1,69 +1,65 @@
 // A chip's list of events and its answer places.
-ghost use Rattle.std.specs.Prelude.{◌≡◌};
+ghost use Rattle.std.specs.Prelude.{◌≡◌, ◌≤◌, ◌*◌, ◌↔◌, ◌⊎◌, [], ◌∷◌, ◌++◌, vec_len, IsErrOf, IfErr, OnOk, OnErr};
 ghost use Rattle.replay.specs.Parts.{in_use};
 
-use crate::page::{Page, put, put_number};
+use crate::stop::Stop;
+use runfile::Event;
+use std::alloc::Global;
 
-#[derive(Clone, Copy)]
-pub enum Added {
-    Count(usize),
-    Full,
+const MOST_EVENTS: usize = 65536;
+
+// What a place holds until its answer is written.
+const UNANSWERED: u16 = 43981;
+
+// The board takes the events' words and the places of their answers as two slices.
+#[derive(Drop)]
+pub struct List {
+    pub words: Vec<u32>,
+    pub answers: Vec<u16>,
+    ghost whole: { vec_len words ≡ 3 * vec_len answers },
 }
 
-// One event more, with a place that holds 43,981 until it is written.
-pub fn add(
-    events: &mut [u32],
-    answers: &mut [u16],
-    count: usize,
-    stamp: u32,
-    levels: u32,
-    access: u32,
-) -> Added {
-    if count < events.len() / 3 {
-        if count < answers.len() {
-            events[3 * count] = stamp;
-            events[3 * count + 1] = levels;
-            events[3 * count + 2] = access;
-            answers[count] = 43981;
-            return Added::Count(count + 1);
+impl List {
+    pub fn new(alloc: Global) -> List
+        ensures { result.answers.items ≡ [] }
+    {
+        List {
+            words: Vec::new(alloc),
+            answers: Vec::new(alloc),
         }
     }
-    Added::Full
+
+    pub fn clear(&mut self)
+        ensures { self.new.answers.items ≡ [] }
+    {
+        self.words.clear();
+        self.answers.clear();
+    }
+
+    pub fn add(&mut self, event: Event) -> Result<(), Stop>
+        ensures words { OnOk result (self.new.words.items ≡ self.old.words.items ++ event.stamp ∷ event.levels ∷ event.access ∷ []) }
+        ensures place { OnOk result (self.new.answers.items ≡ self.old.answers.items ++ UNANSWERED ∷ []) }
+        ensures full { IsErrOf result Stop.ManyEvents ↔ (MOST_EVENTS ≤ vec_len self.old.answers) }
+        ensures memory { IfErr result (λ stop. (stop ≡ Stop.ManyEvents) ⊎ (stop ≡ Stop.OutOfMemory)) }
+        ensures err { OnErr result ((self.new.words.items ≡ self.old.words.items) × (self.new.answers.items ≡ self.old.answers.items)) }
+    {
+        if MOST_EVENTS <= self.answers.len() {
+            return Err(Stop::ManyEvents);
+        }
+        // First, so that no push fails once the words are there.
+        self.answers.reserve(1)?;
+        self.words
+            .extend_from_slice(&[event.stamp, event.levels, event.access])?;
+        self.answers.push(UNANSWERED)?;
+        Ok(())
+    }
 }
 
-// The events in use.
+// The words of so many events. With a count, as its promise and its fault speak of one.
 #[tactic(auto, unfolding(crate::specs::Parts::in_use))]
-pub fn listed(events: &[u32], count: usize) -> &[u32]
-    ensures { result.now ≡ in_use events.now count }
+pub fn listed(words: &[u32], count: usize) -> &[u32]
+    ensures { result.now ≡ in_use words.now count }
 {
-    if count <= events.len() / 3 {
-        let from = 0;
-        let to = 3 * count;
-        return &events[from..to];
-    }
-    events
-}
-
-fn wide(answer: u16) -> u32 {
-    answer as u32
-}
-
-// A name and the answers in use.
-pub fn tell(
-    rt: &HostRuntime,
-    paper: &mut [u8],
-    page: Page,
-    name: &[u8],
-    answers: &[u16],
-    count: usize,
-) -> Page {
-    let mut p = put(rt, paper, page, name);
-    for (i, answer) in answers.iter().enumerate() {
-        if count <= i {
-            return put(rt, paper, p, b"\n");
-        }
-        p = put(rt, paper, p, b" ");
-        p = put_number(rt, paper, p, wide(*answer));
-    }
-    put(rt, paper, p, b"\n")
+    let to = count.saturating_mul(3);
+    words.get(..to).unwrap_or(words)
 }

@@ -1,135 +1,156 @@
 // Files: the run file in pieces, and a ROM.
-ghost use Rattle.std.specs.Prelude.{◌≡◌};
+ghost use Rattle.std.specs.Prelude.{◌≡◌, ◌≤◌, length, vec_len, IfOk};
 ghost use Rattle.replay.specs.Parts.{between, on_from};
 
+use crate::stop::Stop;
+use lines::Line;
+use std::alloc::{AllocError, Global};
 use std::fs::{self, File};
-use std::io::{self, Error, ErrorKind, Read};
+use std::io::{self, Error, ErrorKind, IsTerminal, Read, Stderr};
+use std::rt::Files;
 use std::str;
 
-// The part of the buffer that is read and not yet obeyed, and whether the file ended.
-#[derive(Clone, Copy)]
-pub struct Span {
-    pub from: usize,
-    pub to: usize,
-    pub whole: bool,
-    pub failed: bool,
-    // what failed
-    pub error: Option<Error>,
+// How much of the run file is held at a time.
+const PIECE: usize = 65536;
+
+const LONGEST_ROM: usize = 65536;
+
+// The run file as far as it is read.
+#[derive(Drop)]
+pub struct Source {
+    file: File,
+    // of one length for good, so that a read has nothing to clear first
+    text: Vec<u8>,
+    // the part of the text that is not yet obeyed
+    from: usize,
+    to: usize,
+    // no more comes
+    is_over: bool,
+    // the number of the line at hand
+    line: u32,
+    ghost ordered: { from ≤ to },
+    ghost inside: { to ≤ vec_len text },
 }
 
-#[derive(Clone, Copy)]
-pub enum Lent {
-    Bytes(usize),
-    Unreadable,
-    Long,
-}
-
-// The bytes from a place to another.
+// The bytes from a place to another. None where they are not all there, as its promise says, though they are here.
 #[tactic(auto, unfolding(crate::specs::Parts::between))]
-pub fn within(text: &[u8], from: usize, to: usize) -> &[u8]
+fn within(text: &[u8], from: usize, to: usize) -> &[u8]
     ensures { result.now ≡ between text.now from to }
 {
-    if from <= to {
-        if to <= text.len() {
-            return &text[from..to];
-        }
-    }
-    &text[..0]
+    text.get(from..to).unwrap_or_default()
 }
 
 // So many bytes on, and no further than an end.
 #[tactic(auto, unfolding(crate::specs::Parts::on_from))]
-pub fn onward(from: usize, n: usize, end: usize) -> usize
-    ensures { result ≡ on_from from n end }
+fn onward(from: usize, n: usize, end: usize) -> usize
+    ensures value { result ≡ on_from from n end }
+    ensures in_range { result ≤ end }
 {
-    if from <= end {
-        if n <= end - from {
-            return from + n;
-        }
-    }
-    end
+    from.saturating_add(n).min(end)
 }
 
-// Moves what is left to the front of the buffer: how much it is.
-fn shift(text: &mut [u8], from: usize, to: usize) -> usize {
-    let mut i = 0;
-    for j in from..to {
-        if text.len() <= j {
-            return i;
-        }
-        text[i] = text[j];
-        i += 1;
+impl Source {
+    pub fn new(alloc: Global, file: File) -> Result<Source, AllocError>
+        ensures { IfOk result (λ source. source.line ≡ 0) }
+    {
+        Ok(Source {
+            file,
+            text: vec![in alloc; 0; PIECE]?,
+            from: 0,
+            to: 0,
+            is_over: false,
+            line: 0,
+        })
     }
-    i
+
+    pub fn line(&self) -> u32
+        ensures { result ≡ self.now.line }
+    {
+        self.line
+    }
+
+    // The next line, once so much is read that all of it is there.
+    pub fn next_line(&mut self, stderr: Stderr) -> Result<Option<&[u8]>, Stop> {
+        self.line = self.line.wrapping_add(1);
+        // As for the lines: more turns than a line needs reads.
+        for _ in 0..u64::MAX {
+            match lines::cut(within(&self.text, self.from, self.to), self.is_over) {
+                Line::Whole { length, passed } => return Ok(Some(self.pass(length, passed))),
+                Line::Long => return Err(Stop::LongLine),
+                Line::Part => self.read_on(stderr)?,
+                Line::End => return Ok(None),
+            }
+        }
+        Ok(None)
+    }
+
+    // Steps over a line and gives it.
+    fn pass(&mut self, length: usize, passed: usize) -> &[u8]
+        ensures line { result.now ≡ between self.old.text.items self.old.from (on_from self.old.from length self.old.to) }
+    {
+        let from = self.from;
+        let to = onward(from, length, self.to);
+        self.from = onward(from, passed, self.to);
+        within(&self.text, from, to)
+    }
+
+    // Moves what is left to the front and reads on behind it.
+    fn read_on(&mut self, stderr: Stderr) -> Result<(), Stop> {
+        self.text.copy_within(self.from..self.to, 0);
+        let left = self.to - self.from;
+        let count = self.file.read(&mut self.text[left..]);
+        self.tell_progress(stderr);
+        let count = count.map_err(Stop::UnreadableRun)?;
+        self.from = 0;
+        self.to = left + count;
+        self.is_over = count == 0;
+        Ok(())
+    }
+
+    // A terminal is told how far the run is.
+    fn tell_progress(&self, stderr: Stderr) {
+        let line = self.line;
+        if 1 < line && stderr.is_terminal() {
+            let _ = eprint!(stderr; "line {line}\r");
+        }
+    }
 }
 
 // Opens a file to read it. std takes a path as text, and has no way to one that is none.
-pub fn open(rt: &HostRuntime, path: &[u8]) -> io::Result<File> {
+pub fn open<R: Files>(rt: &R, path: &[u8]) -> io::Result<R::File> {
     match str::from_utf8(path) {
         Ok(name) => fs::open(rt, name),
         Err(_) => Err(Error::new(ErrorKind::InvalidInput, "the path is not UTF-8 text")),
     }
 }
 
-fn read_at(file: &mut File, text: &mut [u8], at: usize) -> io::Result<usize> {
-    if at <= text.len() {
-        return file.read(&mut text[at..]);
-    }
-    Ok(0)
-}
-
-// Reads on behind what is left.
-pub fn fill(file: &mut File, text: &mut [u8], span: Span) -> Span {
-    let left = shift(text, span.from, span.to);
-    match read_at(file, text, left) {
-        Ok(n) => Span {
-            from: 0,
-            to: onward(left, n, text.len()),
-            whole: n == 0,
-            failed: false,
-            error: None,
-        },
-        Err(error) => Span {
-            from: 0,
-            to: left,
-            whole: true,
-            failed: true,
-            error: Some(error),
-        },
-    }
-}
-
 // Reads until the buffer is full, the file ends or a read fails: how many bytes came.
-fn read_full(file: &mut File, buffer: &mut [u8]) -> usize {
+fn read_full(file: &mut impl Read, buffer: &mut [u8]) -> usize
+    ensures { result ≤ length buffer.new }
+{
     let mut done = 0;
     for _ in 0..buffer.len() {
-        match read_at(file, buffer, done) {
+        match file.read(&mut buffer[done..]) {
             Ok(0) | Err(_) => return done,
-            Ok(n) => done = onward(done, n, buffer.len()),
+            Ok(n) => done += n,
         }
     }
     done
 }
 
-// Reads a whole file: the buffer has one byte more than a ROM may have.
-fn read_rom(file: &mut File, rom: &mut [u8]) -> Lent {
-    let Ok(n) = file.read(rom) else {
-        return Lent::Unreadable;
+// Reads a whole ROM, which ends where a read behind the first fails.
+pub fn read_rom<R: Files + AllocGlobal>(rt: &R, path: &[u8]) -> Result<Vec<u8>, Stop>
+    ensures { IfOk result (λ rom. vec_len rom ≤ LONGEST_ROM) }
+{
+    let mut file = open(rt, path).map_err(|_| Stop::UnreadableRom)?;
+    let mut rom = vec![in rt.alloc(); 0; LONGEST_ROM + 1]?;
+    let Ok(first) = file.read(&mut rom) else {
+        return Err(Stop::UnreadableRom);
     };
-    if n < rom.len() {
-        let more = read_full(file, &mut rom[n..]);
-        let all = onward(n, more, rom.len());
-        if all < rom.len() {
-            return Lent::Bytes(all);
-        }
+    let length = first + read_full(&mut file, &mut rom[first..]);
+    if LONGEST_ROM < length {
+        return Err(Stop::LongRom);
     }
-    Lent::Long
-}
-
-// Lends a file's bytes as the ROM.
-pub fn lend(rt: &HostRuntime, path: &[u8], rom: &mut [u8]) -> Lent {
-    match open(rt, path) {
-        Ok(mut file) => read_rom(&mut file, rom),
-        Err(_) => Lent::Unreadable,
-    }
+    rom.truncate(length);
+    Ok(rom)
 }

@@ -2,270 +2,212 @@
 #![tactic(auto)]
 
 ghost use Rattle.std.specs.Prelude.{◌≡◌, ◌<◌};
-ghost use Rattle.runfile.specs.Commands.{chip_of, name_of, number_at, counted, all_good, start_with, start_of, rom_of, event_with, event_of, move_with, move_of, alone, called, begun, command_of};
+ghost use Rattle.runfile.specs.declared.Mistake.TheVariants as mistake;
+ghost use Rattle.runfile.specs.Commands.{chip_of, name_of, number_at, last_at, start_of, event_of, move_of, plain, called, command_of};
 
-use numbers::{Number, read};
+use numbers::{BadNumber, read};
+use thiserror::Error;
 use words::{filled, same, text};
 
-#[derive(Clone, Copy)]
+#[derive(Clone, Copy, Debug, PartialEq, Eq)]
 pub enum Chip {
     Mc6846,
     Mc6840,
 }
 
-// The chip that a word names.
-#[derive(Clone, Copy)]
-pub enum Which {
-    Of(Chip),
-    Neither,
+// What a board is started with.
+#[derive(Clone, Copy, Debug, PartialEq, Eq)]
+pub struct Start {
+    pub rom: u32,
+    pub io: u32,
+    pub a6: u32,
+    pub extra: u32,
+    pub wire: u32,
+    pub stamp: u32,
 }
 
-// What another word names.
-#[derive(Clone, Copy)]
-pub enum Name {
+// The words of an event.
+#[derive(Clone, Copy, Debug, PartialEq, Eq)]
+pub struct Event {
+    pub stamp: u32,
+    pub levels: u32,
+    pub access: u32,
+}
+
+#[derive(Clone, Copy, Debug, PartialEq, Eq)]
+pub enum Command {
+    // The line has no word.
+    Empty,
+    Start(Start),
+    // The path is word 1.
+    Rom,
+    Event { chip: Chip, event: Event },
+    Move { chip: Chip, cycles: u32 },
+    Report,
+    Stamps,
+    Answers,
+}
+
+// What is wrong with a line.
+#[derive(Clone, Copy, Debug, PartialEq, Eq, Error)]
+pub enum Mistake {
+    #[error("unknown word")]
+    UnknownWord,
+    #[error("wrong number of words")]
+    WrongCount,
+    #[error("bad number")]
+    BadNumber,
+}
+
+impl From<BadNumber> for Mistake {
+    ghost from_gives = { λ _ m. m ≡ mistake.BadNumber };
+
+    fn from(_bad: BadNumber) -> Mistake {
+        Mistake::BadNumber
+    }
+}
+
+// The commands that a name begins.
+#[derive(Clone, Copy, Debug, PartialEq, Eq)]
+enum Name {
     Start,
     Rom,
     Move,
     Report,
     Stamps,
     Answers,
-    Unknown,
 }
 
-#[derive(Clone, Copy)]
-pub enum Command {
-    Empty,
-    Start {
-        rom: u32,
-        io: u32,
-        a6: u32,
-        extra: u32,
-        wire: u32,
-        stamp: u32,
-    },
-    // The path is word 1.
-    Rom,
-    Event {
-        chip: Chip,
-        stamp: u32,
-        levels: u32,
-        access: u32,
-    },
-    Move {
-        chip: Chip,
-        cycles: u32,
-    },
-    Report,
-    Stamps,
-    Answers,
-    UnknownWord,
-    WrongCount,
-    BadNumber,
-}
-
+// The chip that a word names. By `same` and no pattern, here and below: in a `match` on the bytes the proof did not close.
 #[tactic(auto, unfolding(crate::specs::Commands::chip_of))]
-fn part(word: &[u8]) -> Which
+fn chip_of(word: &[u8]) -> Option<Chip>
     ensures { result ≡ chip_of word.now }
 {
     if same(word, b"6846") {
-        return Which::Of(Chip::Mc6846);
+        return Some(Chip::Mc6846);
     }
     if same(word, b"6840") {
-        return Which::Of(Chip::Mc6840);
+        return Some(Chip::Mc6840);
     }
-    Which::Neither
+    None
 }
 
 #[tactic(auto, unfolding(crate::specs::Commands::name_of))]
-fn meaning(word: &[u8]) -> Name
+fn name_of(word: &[u8]) -> Option<Name>
     ensures { result ≡ name_of word.now }
 {
     if same(word, b"start") {
-        return Name::Start;
+        return Some(Name::Start);
     }
     if same(word, b"rom") {
-        return Name::Rom;
+        return Some(Name::Rom);
     }
     if same(word, b"move") {
-        return Name::Move;
+        return Some(Name::Move);
     }
     if same(word, b"report") {
-        return Name::Report;
+        return Some(Name::Report);
     }
     if same(word, b"stamps") {
-        return Name::Stamps;
+        return Some(Name::Stamps);
     }
     if same(word, b"answers") {
-        return Name::Answers;
+        return Some(Name::Answers);
     }
-    Name::Unknown
+    None
 }
 
 // The number that word `n` says.
-fn number_at(line: &[u8], n: usize) -> Number
+fn number_at(line: &[u8], n: usize) -> Result<u32, BadNumber>
     ensures { result ≡ number_at line.now n }
 {
     read(text(line, n))
 }
 
-// Whether word `n` is the last.
-fn is_last(line: &[u8], n: usize) -> bool
+// Word `n` has to be the last.
+fn expect_last(line: &[u8], n: usize) -> Result<(), Mistake>
     requires { n < 7 }
-    ensures { result ≡ counted line.now n }
+    ensures { result ≡ last_at line.now n }
 {
-    filled(line, n) & !filled(line, n + 1)
-}
-
-#[tactic(auto, unfolding(crate::specs::Commands::all_good))]
-fn are_good(a: Number, b: Number, c: Number) -> bool
-    ensures { result ≡ all_good a b c }
-{
-    a.is_good() & b.is_good() & c.is_good()
-}
-
-#[tactic(auto, unfolding(crate::specs::Commands::start_with))]
-fn start_with(a: Number, b: Number, c: Number, d: Number, e: Number, f: Number) -> Command
-    ensures { result ≡ start_with a b c d e f }
-{
-    if are_good(a, b, c) & are_good(d, e, f) {
-        return Command::Start {
-            rom: a.value(),
-            io: b.value(),
-            a6: c.value(),
-            extra: d.value(),
-            wire: e.value(),
-            stamp: f.value(),
-        };
+    if filled(line, n) && !filled(line, n + 1) {
+        return Ok(());
     }
-    Command::BadNumber
+    Err(Mistake::WrongCount)
 }
 
 #[tactic(auto, unfolding(crate::specs::Commands::start_of))]
-fn start(line: &[u8]) -> Command
+fn decode_start(line: &[u8]) -> Result<Command, Mistake>
     ensures { result ≡ start_of line.now }
 {
-    if is_last(line, 6) {
-        return start_with(
-            number_at(line, 1),
-            number_at(line, 2),
-            number_at(line, 3),
-            number_at(line, 4),
-            number_at(line, 5),
-            number_at(line, 6),
-        );
-    }
-    Command::WrongCount
-}
-
-#[tactic(auto, unfolding(crate::specs::Commands::rom_of))]
-fn rom(line: &[u8]) -> Command
-    ensures { result ≡ rom_of line.now }
-{
-    if is_last(line, 1) {
-        return Command::Rom;
-    }
-    Command::WrongCount
-}
-
-#[tactic(auto, unfolding(crate::specs::Commands::event_with))]
-fn event_with(chip: Chip, a: Number, b: Number, c: Number) -> Command
-    ensures { result ≡ event_with chip a b c }
-{
-    if are_good(a, b, c) {
-        return Command::Event {
-            chip: chip,
-            stamp: a.value(),
-            levels: b.value(),
-            access: c.value(),
-        };
-    }
-    Command::BadNumber
+    expect_last(line, 6)?;
+    Ok(Command::Start(Start {
+        rom: number_at(line, 1)?,
+        io: number_at(line, 2)?,
+        a6: number_at(line, 3)?,
+        extra: number_at(line, 4)?,
+        wire: number_at(line, 5)?,
+        stamp: number_at(line, 6)?,
+    }))
 }
 
 #[tactic(auto, unfolding(crate::specs::Commands::event_of))]
-fn event(line: &[u8], chip: Chip) -> Command
+fn decode_event(line: &[u8], chip: Chip) -> Result<Command, Mistake>
     ensures { result ≡ event_of line.now chip }
 {
-    if is_last(line, 3) {
-        return event_with(
-            chip,
-            number_at(line, 1),
-            number_at(line, 2),
-            number_at(line, 3),
-        );
-    }
-    Command::WrongCount
+    expect_last(line, 3)?;
+    let event = Event {
+        stamp: number_at(line, 1)?,
+        levels: number_at(line, 2)?,
+        access: number_at(line, 3)?,
+    };
+    Ok(Command::Event { chip, event })
 }
 
-#[tactic(auto, unfolding(crate::specs::Commands::move_with, crate::specs::Commands::move_by))]
-fn move_with(which: Which, cycles: Number) -> Command
-    ensures { result ≡ move_with which cycles }
-{
-    let Which::Of(chip) = which else {
-        return Command::UnknownWord;
-    };
-    let Number::Value(n) = cycles else {
-        return Command::BadNumber;
-    };
-    Command::Move {
-        chip: chip,
-        cycles: n,
-    }
-}
-
-#[tactic(auto, unfolding(crate::specs::Commands::move_of))]
-fn movement(line: &[u8]) -> Command
+#[tactic(auto, unfolding(crate::specs::Commands::move_of, crate::specs::Commands::move_with))]
+fn decode_move(line: &[u8]) -> Result<Command, Mistake>
     ensures { result ≡ move_of line.now }
 {
-    if is_last(line, 2) {
-        return move_with(part(text(line, 1)), number_at(line, 2));
-    }
-    Command::WrongCount
+    expect_last(line, 2)?;
+    let chip = chip_of(text(line, 1)).ok_or(Mistake::UnknownWord)?;
+    let cycles = number_at(line, 2)?;
+    Ok(Command::Move { chip, cycles })
 }
 
-// A command of one word.
-#[tactic(auto, unfolding(crate::specs::Commands::alone))]
-fn only(line: &[u8], command: Command) -> Command
-    ensures { result ≡ alone line.now command }
+// A command whose last word is word `n`.
+fn decode_plain(line: &[u8], n: usize, command: Command) -> Result<Command, Mistake>
+    requires { n < 7 }
+    ensures { result ≡ plain line.now n command }
 {
-    if is_last(line, 0) {
-        return command;
-    }
-    Command::WrongCount
+    expect_last(line, n)?;
+    Ok(command)
 }
 
 #[tactic(auto, unfolding(crate::specs::Commands::called))]
-fn by_name(line: &[u8], name: Name) -> Command
+fn decode_named(line: &[u8], name: Name) -> Result<Command, Mistake>
     ensures { result ≡ called line.now name }
 {
     match name {
-        Name::Start => start(line),
-        Name::Rom => rom(line),
-        Name::Move => movement(line),
-        Name::Report => only(line, Command::Report),
-        Name::Stamps => only(line, Command::Stamps),
-        Name::Answers => only(line, Command::Answers),
-        Name::Unknown => Command::UnknownWord,
+        Name::Start => decode_start(line),
+        Name::Rom => decode_plain(line, 1, Command::Rom),
+        Name::Move => decode_move(line),
+        Name::Report => decode_plain(line, 0, Command::Report),
+        Name::Stamps => decode_plain(line, 0, Command::Stamps),
+        Name::Answers => decode_plain(line, 0, Command::Answers),
     }
-}
-
-#[tactic(auto, unfolding(crate::specs::Commands::begun))]
-fn by_first(line: &[u8], which: Which) -> Command
-    ensures { result ≡ begun line.now which }
-{
-    let Which::Of(chip) = which else {
-        return by_name(line, meaning(text(line, 0)));
-    };
-    event(line, chip)
 }
 
 // The command that a line says, or what is wrong with it.
-#[tactic(auto, unfolding(crate::specs::Commands::command_of))]
-pub fn decode(line: &[u8]) -> Command
+#[tactic(auto, unfolding(crate::specs::Commands::command_of, crate::specs::Commands::begun, crate::specs::Commands::named))]
+pub fn decode(line: &[u8]) -> Result<Command, Mistake>
     ensures { result ≡ command_of line.now }
 {
-    if filled(line, 0) {
-        return by_first(line, part(text(line, 0)));
+    if !filled(line, 0) {
+        return Ok(Command::Empty);
     }
-    Command::Empty
+    let first = text(line, 0);
+    if let Some(chip) = chip_of(first) {
+        return decode_event(line, chip);
+    }
+    let name = name_of(first).ok_or(Mistake::UnknownWord)?;
+    decode_named(line, name)
 }

@@ -1,5 +1,5 @@
 -- The section "Event lists and answers in memory" of document 01, for the 6840.
-use Rattle.std.specs.Prelude.{ℕ, ◌/◌, ◌%◌, ◌^◌, Bool, not, cond, ◌||◌, eqb}
+use Rattle.std.specs.Prelude.{ℕ, ◌/◌, ◌%◌, ◌^◌, Bool, not, cond, ◌||◌, eqb, Option, Some, None}
 use Rattle.timer.specs.Fields.{bit}
 use Rattle.signals.specs.Words.{read_with_data, absent_with_bits}
 use Rattle.signals.specs.declared.m6840.Levels.{Levels}
@@ -14,8 +14,8 @@ unfoldable pub levels_of : ℕ → Levels
 levels_of w = record { c1 = bit 0 w; c2 = bit 1 w; c3 = bit 2 w; g1 = bit 3 w; g2 = bit 4 w; g3 = bit 5 w; reset = bit 6 w }
 
 -- Access: bit 0 present, 1 read, 2-4 RS0-RS2, 16-23 data.
-unfoldable pub access_of : ℕ → Access
-access_of w = record { present = bit 0 w; read = bit 1 w; register = w / 2 ^ 2 % 2 ^ 3; byte = w / 2 ^ 16 % 2 ^ 8 }
+unfoldable pub access_of : ℕ → Option Access
+access_of w = cond (bit 0 w) (Some (record { read = bit 1 w; register = w / 2 ^ 2 % 2 ^ 3; byte = w / 2 ^ 16 % 2 ^ 8 })) None
 
 -- An unnamed bit is set: levels 7-31, access 5-15 and 24-31.
 abbrev pub unnamed : ℕ → ℕ → Bool

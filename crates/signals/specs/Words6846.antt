@@ -1,5 +1,5 @@
 -- The section "Event lists and answers in memory" of document 01, for the 6846: how an event's words are taken apart.
-use Rattle.std.specs.Prelude.{ℕ, ◌/◌, ◌%◌, ◌^◌, Bool, not, ◌||◌, eqb}
+use Rattle.std.specs.Prelude.{ℕ, ◌/◌, ◌%◌, ◌^◌, Bool, not, cond, ◌||◌, eqb, Option, Some, None}
 use Rattle.timer.specs.Fields.{bit}
 use Rattle.signals.specs.Words.{read_with_data, absent_with_bits}
 use Rattle.signals.specs.declared.m6846.Levels.{Levels}
@@ -14,8 +14,8 @@ unfoldable pub levels_of : ℕ → Levels
 levels_of w = record { pins = w % 2 ^ 8; cp1 = bit 8 w; cp2 = bit 9 w; gate = bit 10 w; clock = bit 11 w; reset = bit 12 w }
 
 -- Access: bit 0 present, 1 read, 2 CS0, 3 CS1, 4-14 A0-A10, 16-23 data. The code is CS0 + 2 x CS1.
-unfoldable pub access_of : ℕ → Access
-access_of w = record { present = bit 0 w; read = bit 1 w; code = w / 2 ^ 2 % 2 ^ 2; address = w / 2 ^ 4 % 2 ^ 11; byte = w / 2 ^ 16 % 2 ^ 8 }
+unfoldable pub access_of : ℕ → Option Access
+access_of w = cond (bit 0 w) (Some (record { read = bit 1 w; code = w / 2 ^ 2 % 2 ^ 2; address = w / 2 ^ 4 % 2 ^ 11; byte = w / 2 ^ 16 % 2 ^ 8 })) None
 
 -- An unnamed bit is set: levels 13-31, access 15 and 24-31.
 abbrev pub unnamed : ℕ → ℕ → Bool

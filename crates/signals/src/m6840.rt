@@ -1,8 +1,9 @@
 // An event of the MC6840.
 ghost use Rattle.std.specs.Prelude.{◌≡◌};
-ghost use Rattle.signals.specs.Words6840.{levels_of, access_of, unnamed, bad_event, wired_of};
+ghost use Rattle.signals.specs.Words6840.{levels_of, access_of, bad_event, wired_of};
 
-use crate::{absent_with_bits, lowest_bit, reads_with_data};
+use crate::{Signals, is_bad_event};
+use timer::bit;
 
 // Before the first event all levels are high.
 pub const ALL_HIGH: u32 = 127;
@@ -20,57 +21,57 @@ pub struct Levels {
 }
 
 // What the bus asks: the register is RS0 + 2 RS1 + 4 RS2.
+// One struct for both: a read has no data, and an event whose read has some is bad.
 #[derive(Clone, Copy)]
 pub struct Access {
-    pub present: bool,
     pub read: bool,
     pub register: u8,
     pub byte: u8,
 }
 
-#[tactic(auto, unfolding(crate::specs::Words6840::levels_of))]
-pub fn levels_of(word: u32) -> Levels
-    ensures { result ≡ levels_of word }
-{
-    Levels {
-        c1: lowest_bit(word),
-        c2: word / 2 % 2 == 1,
-        c3: word / 4 % 2 == 1,
-        g1: word / 8 % 2 == 1,
-        g2: word / 16 % 2 == 1,
-        g3: word / 32 % 2 == 1,
-        reset: word / 64 % 2 == 1,
+impl From<u32> for Levels {
+    ghost from_gives = { λ word levels. levels ≡ levels_of word };
+
+    #[tactic(auto, unfolding(crate::specs::Words6840::levels_of))]
+    fn from(word: u32) -> Levels {
+        Levels {
+            c1: bit::<0>(word),
+            c2: bit::<1>(word),
+            c3: bit::<2>(word),
+            g1: bit::<3>(word),
+            g2: bit::<4>(word),
+            g3: bit::<5>(word),
+            reset: bit::<6>(word),
+        }
     }
 }
 
+// No From, as Option is not of this crate.
 #[tactic(auto, unfolding(crate::specs::Words6840::access_of))]
-pub fn access_of(word: u32) -> Access
+pub fn access_of(word: u32) -> Option<Access>
     ensures { result ≡ access_of word }
 {
-    Access {
-        present: lowest_bit(word),
-        read: word / 2 % 2 == 1,
+    if !bit::<0>(word) {
+        return None;
+    }
+    Some(Access {
+        read: bit::<1>(word),
         register: (word / 4 % 8) as u8,
         byte: (word / 65536 % 256) as u8,
+    })
+}
+
+impl Signals for Levels {
+    ghost bad = { bad_event };
+
+    #[tactic(auto, unfolding(crate::specs::Words6840::bad_event))]
+    fn is_bad(levels: u32, access: u32) -> bool {
+        is_bad_event::<7, 5>(levels, access)
     }
-}
-
-fn has_unnamed(levels: u32, access: u32) -> bool
-    ensures { result ≡ unnamed levels access }
-{
-    !(levels / 128 == 0) | !(access / 32 % 2048 == 0) | !(access / 16777216 == 0)
-}
-
-// An event that a chip stops at, whatever its stamp.
-#[tactic(auto, unfolding(crate::specs::Words6840::bad_event))]
-pub fn is_bad(levels: u32, access: u32) -> bool
-    ensures { result ≡ bad_event levels access }
-{
-    has_unnamed(levels, access) | reads_with_data(access) | absent_with_bits(access)
 }
 
 impl Levels {
-    // The wire's level on the input that it goes to.
+    // The wire's level on the input that it goes to, by its number: the record that C holds may have any byte, and no enum.
     #[tactic(auto, unfolding(crate::specs::Words6840::wired_of))]
     pub fn wired(mut self, wire: u8, level: bool) -> Levels
         ensures { result ≡ wired_of wire level self }

@@ -1,8 +1,9 @@
 // An event of the MC6846.
 ghost use Rattle.std.specs.Prelude.{◌≡◌};
-ghost use Rattle.signals.specs.Words6846.{levels_of, access_of, unnamed, bad_event};
+ghost use Rattle.signals.specs.Words6846.{levels_of, access_of, bad_event};
 
-use crate::{absent_with_bits, lowest_bit, reads_with_data};
+use crate::{Signals, is_bad_event};
+use timer::bit;
 
 // Before the first event all levels are high.
 pub const ALL_HIGH: u32 = 8191;
@@ -19,52 +20,52 @@ pub struct Levels {
 }
 
 // What the bus asks in a cycle; the code is CS0 + 2 x CS1, the address A0-A10.
+// One struct for both: a read has no data, and an event whose read has some is bad.
 #[derive(Clone, Copy)]
 pub struct Access {
-    pub present: bool,
     pub read: bool,
     pub code: u8,
     pub address: u16,
     pub byte: u8,
 }
 
-#[tactic(auto, unfolding(crate::specs::Words6846::levels_of))]
-pub fn levels_of(word: u32) -> Levels
-    ensures { result ≡ levels_of word }
-{
-    Levels {
-        pins: (word % 256) as u8,
-        cp1: word / 256 % 2 == 1,
-        cp2: word / 512 % 2 == 1,
-        gate: word / 1024 % 2 == 1,
-        clock: word / 2048 % 2 == 1,
-        reset: word / 4096 % 2 == 1,
+impl From<u32> for Levels {
+    ghost from_gives = { λ word levels. levels ≡ levels_of word };
+
+    #[tactic(auto, unfolding(crate::specs::Words6846::levels_of))]
+    fn from(word: u32) -> Levels {
+        Levels {
+            pins: (word % 256) as u8,
+            cp1: bit::<8>(word),
+            cp2: bit::<9>(word),
+            gate: bit::<10>(word),
+            clock: bit::<11>(word),
+            reset: bit::<12>(word),
+        }
     }
 }
 
+// No From, as Option is not of this crate.
 #[tactic(auto, unfolding(crate::specs::Words6846::access_of))]
-pub fn access_of(word: u32) -> Access
+pub fn access_of(word: u32) -> Option<Access>
     ensures { result ≡ access_of word }
 {
-    Access {
-        present: lowest_bit(word),
-        read: word / 2 % 2 == 1,
+    if !bit::<0>(word) {
+        return None;
+    }
+    Some(Access {
+        read: bit::<1>(word),
         code: (word / 4 % 4) as u8,
         address: (word / 16 % 2048) as u16,
         byte: (word / 65536 % 256) as u8,
+    })
+}
+
+impl Signals for Levels {
+    ghost bad = { bad_event };
+
+    #[tactic(auto, unfolding(crate::specs::Words6846::bad_event))]
+    fn is_bad(levels: u32, access: u32) -> bool {
+        is_bad_event::<13, 15>(levels, access)
     }
-}
-
-fn has_unnamed(levels: u32, access: u32) -> bool
-    ensures { result ≡ unnamed levels access }
-{
-    !(levels / 8192 == 0) | (access / 32768 % 2 == 1) | !(access / 16777216 == 0)
-}
-
-// An event that a chip stops at, whatever its stamp.
-#[tactic(auto, unfolding(crate::specs::Words6846::bad_event))]
-pub fn is_bad(levels: u32, access: u32) -> bool
-    ensures { result ≡ bad_event levels access }
-{
-    has_unnamed(levels, access) | reads_with_data(access) | absent_with_bits(access)
 }

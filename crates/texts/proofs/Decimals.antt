@@ -29,7 +29,7 @@ next_digit (suc a) n out h f k =
     let e : suc a - 1 ≡ a = omega arith in
     simp (e, put out a (48 + n % 10) (omega arith), le-ltb _ _ k, append_assoc)
 
-pub no_digit : (a n : ℕ) (out : List ℕ) → a ≤ 0 → digits_in a n ++ drop a out ≡ drop a out
+pub no_digit : (a n : ℕ) (out : List ℕ) → a ≤ 0 → digits_in a n ++ drop a out ≡ out
 unfolding digits_in
 no_digit zero n out h = refl
 no_digit (suc a) n out h = absurd (omega arith)

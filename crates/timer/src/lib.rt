@@ -2,9 +2,19 @@
 #![tactic(auto)]
 
 ghost use Rattle.std.specs.Prelude.{◌≡◌, ◌&&◌, not, true, false};
-ghost use Rattle.timer.specs.Fields.{msb, lsb, with_divider, with_flag, with_level, with_running, with_marks, with_inputs};
+ghost use Rattle.timer.specs.Fields.{bit, msb, lsb, with_divider, with_flag, with_level, with_running, with_marks, with_inputs};
 ghost use Rattle.timer.specs.Quick.{plain, plain_clock, plain_cycle};
 ghost use Rattle.timer.specs.Rules.{mode_of, ticks, divider_after, passes, held, settled, initialised, started, caught, early, written, latch_written, fell, loads, rose, gated, enabled, fallen, shaped, last_row, level_after, timed_out, counted_down, edged, reaches, free_cycle, cycle_of, pin_of, control_written, armed_by, msb_read, asks, reset_state, fits};
+
+// Bit K of a word; a narrower one is widened by From. Past the word no bit is set, so that every K has an answer.
+pub fn bit<const K: u32>(word: u32) -> bool
+    ensures { result ≡ bit K word }
+{
+    let Some(rest) = word.checked_shr(K) else {
+        return false;
+    };
+    rest % 2 == 1
+}
 
 // What a timer keeps from cycle to cycle.
 #[repr(C)]
@@ -24,6 +34,13 @@ pub struct Timer {
     // the gate's and the clock's level in the cycle before
     pub gate: bool,
     pub clock: bool,
+}
+
+// The levels of a timer's gate and clock in a cycle.
+#[derive(Clone, Copy)]
+struct Inputs {
+    gate: bool,
+    clock: bool,
 }
 
 // What the chip says of a timer: held by internal reset, divided by 8, dual 8-bit, mode 001 cascades.
@@ -48,34 +65,32 @@ pub enum Mode {
 fn mode_of(s: Setting, control: u8) -> Mode
     ensures { result ≡ mode_of s control }
 {
-    let pulse = control / 16 % 2 == 1;
-    let greater = control / 32 % 2 == 1;
-    if control / 8 % 2 == 1 {
-        return Mode::Interval {
-            pulse: pulse,
-            greater: greater,
-        };
+    let control = u32::from(control);
+    let pulse = bit::<4>(control);
+    let greater = bit::<5>(control);
+    if bit::<3>(control) {
+        return Mode::Interval { pulse, greater };
     }
-    if greater {
-        if s.cascades & !pulse {
-            return Mode::Cascaded;
-        }
-        return Mode::SingleShot;
+    if !greater {
+        return Mode::Continuous;
     }
-    Mode::Continuous
+    if s.cascades & !pulse {
+        return Mode::Cascaded;
+    }
+    Mode::SingleShot
 }
 
 #[tactic(auto, unfolding(crate::specs::Rules::divider_after))]
 fn divider_after(s: Setting, tick: bool, divider: u8) -> u8
     ensures { result ≡ divider_after s tick divider }
 {
-    if s.divided {
-        if tick {
-            return (divider % 8 + 1) % 8;
-        }
+    if !s.divided {
+        return 0;
+    }
+    if !tick {
         return divider;
     }
-    0
+    (divider % 8 + 1) % 8
 }
 
 fn passes_divider(s: Setting, tick: bool, divider: u8) -> bool
@@ -91,28 +106,31 @@ fn fall(dual: bool, latch: u16, counter: u16) -> u16
     if counter == 0 {
         return latch;
     }
-    if dual {
-        if counter % 256 == 0 {
-            return counter - 256 + latch % 256;
-        }
-        return counter - 1;
+    if dual & (counter % 256 == 0) {
+        return counter - 256 + latch % 256;
     }
     counter - 1
 }
 
 impl Timer {
-    fn sampled(mut self, gate: bool, clock: bool) -> Timer
-        ensures { result ≡ with_inputs gate clock self }
+    fn control_bit<const K: u32>(self) -> bool
+        ensures { result ≡ bit K self.control }
     {
-        self.gate = gate;
-        self.clock = clock;
+        bit::<K>(u32::from(self.control))
+    }
+
+    fn sampled(mut self, inputs: Inputs) -> Timer
+        ensures { result ≡ with_inputs inputs.gate inputs.clock self }
+    {
+        self.gate = inputs.gate;
+        self.clock = inputs.clock;
         self
     }
 
     fn ticked(self, clock: bool) -> bool
         ensures { result ≡ ticks clock self }
     {
-        (self.control / 2 % 2 == 1) | (self.clock & !clock)
+        self.control_bit::<1>() | (self.clock & !clock)
     }
 
     #[tactic(auto, unfolding(crate::specs::Rules::initialised))]
@@ -195,8 +213,7 @@ impl Timer {
         ensures { result ≡ fell mode self }
     {
         match mode {
-            Mode::Continuous => self.initialise(),
-            Mode::SingleShot => self.initialise(),
+            Mode::Continuous | Mode::SingleShot => self.initialise(),
             Mode::Cascaded => {
                 let mut t = self.initialise();
                 t.level = self.level;
@@ -211,9 +228,7 @@ impl Timer {
         ensures { result ≡ loads mode self }
     {
         match mode {
-            Mode::Continuous => true,
-            Mode::SingleShot => true,
-            Mode::Cascaded => true,
+            Mode::Continuous | Mode::SingleShot | Mode::Cascaded => true,
             Mode::Interval { pulse, greater } => !(self.flag | self.early(pulse, greater)),
         }
     }
@@ -234,15 +249,11 @@ impl Timer {
         ensures { result ≡ rose mode self }
     {
         match mode {
-            Mode::Continuous => self,
-            Mode::SingleShot => self,
-            Mode::Cascaded => self,
-            Mode::Interval { pulse, greater } => {
-                if pulse {
-                    return self.rise_pulse(greater);
-                }
-                self
-            }
+            Mode::Interval {
+                pulse: true,
+                greater,
+            } => self.rise_pulse(greater),
+            _ => self,
         }
     }
 
@@ -265,25 +276,21 @@ impl Timer {
     {
         match mode {
             Mode::Continuous => !gate,
-            Mode::SingleShot => true,
-            Mode::Cascaded => true,
-            Mode::Interval {
-                pulse: _,
-                greater: _,
-            } => self.running,
+            Mode::SingleShot | Mode::Cascaded => true,
+            Mode::Interval { .. } => self.running,
         }
     }
 
     fn dual_output(self, s: Setting) -> bool
         ensures { result ≡ shaped s self }
     {
-        s.dual & !(self.latch % 256 == 0)
+        s.dual & (self.latch % 256 != 0)
     }
 
     fn in_last_row(self) -> bool
         ensures { result ≡ last_row self }
     {
-        (self.counter / 256 == 0) & !(self.counter % 256 == 0)
+        (self.counter / 256 == 0) & (self.counter % 256 != 0)
     }
 
     #[tactic(auto, unfolding(crate::specs::Rules::level_after))]
@@ -320,14 +327,11 @@ impl Timer {
             Mode::SingleShot => self.single_shot_level(s),
             Mode::Cascaded => {
                 if self.counter == 0 {
-                    return self.control / 128 % 2 == 1;
+                    return self.control_bit::<7>();
                 }
                 self.level
             }
-            Mode::Interval {
-                pulse: _,
-                greater: _,
-            } => false,
+            Mode::Interval { .. } => false,
         }
     }
 
@@ -345,16 +349,12 @@ impl Timer {
         ensures { result ≡ timed_out mode self }
     {
         match mode {
-            Mode::Continuous => self.flag_time_out(),
-            Mode::SingleShot => self.flag_time_out(),
-            Mode::Cascaded => self.flag_time_out(),
-            Mode::Interval { pulse: _, greater } => {
-                if greater {
-                    return self.catch();
-                }
+            Mode::Interval { greater: true, .. } => self.catch(),
+            Mode::Interval { .. } => {
                 self.lapsed = true;
                 self
             }
+            _ => self.flag_time_out(),
         }
     }
 
@@ -372,37 +372,38 @@ impl Timer {
         t
     }
 
-    fn clocked(mut self, divider: u8, gate: bool, clock: bool) -> Timer
-        ensures { result ≡ with_inputs gate clock (with_divider divider self) }
+    fn with_divider(mut self, divider: u8) -> Timer
+        ensures { result ≡ with_divider divider self }
     {
         self.divider = divider;
-        self.gate = gate;
-        self.clock = clock;
         self
     }
 
+    // Setting, mode and inputs stay apart, here and in the next two: a struct of them would be taken apart again in each.
     #[tactic(auto, unfolding(crate::specs::Rules::edged))]
-    fn edge_first(self, s: Setting, mode: Mode, gate: bool, clock: bool) -> Timer
-        ensures { result ≡ edged s mode gate clock self }
+    fn edge_first(self, s: Setting, mode: Mode, inputs: Inputs) -> Timer
+        ensures { result ≡ edged s mode inputs.gate inputs.clock self }
     {
-        let divider = divider_after(s, self.ticked(clock), self.divider);
-        self.gate_edge(mode, gate).clocked(divider, gate, clock)
+        let divider = divider_after(s, self.ticked(inputs.clock), self.divider);
+        self.gate_edge(mode, inputs.gate)
+            .with_divider(divider)
+            .sampled(inputs)
     }
 
     #[tactic(auto, unfolding(crate::specs::Rules::reaches))]
-    fn clock_reaches(self, s: Setting, mode: Mode, gate: bool, clock: bool) -> bool
-        ensures { result ≡ reaches s mode gate clock self }
+    fn clock_reaches(self, s: Setting, mode: Mode, inputs: Inputs) -> bool
+        ensures { result ≡ reaches s mode inputs.gate inputs.clock self }
     {
-        let passed = passes_divider(s, self.ticked(clock), self.divider);
-        passed & !(self.gate & !gate & self.loaded(mode))
+        let passed = passes_divider(s, self.ticked(inputs.clock), self.divider);
+        passed & !(self.gate & !inputs.gate & self.loaded(mode))
     }
 
     #[tactic(auto, unfolding(crate::specs::Rules::free_cycle))]
-    fn free_cycle(self, s: Setting, mode: Mode, gate: bool, clock: bool) -> Timer
-        ensures { result ≡ free_cycle s mode gate clock self }
+    fn free_cycle(self, s: Setting, mode: Mode, inputs: Inputs) -> Timer
+        ensures { result ≡ free_cycle s mode inputs.gate inputs.clock self }
     {
-        let t = self.edge_first(s, mode, gate, clock);
-        if self.clock_reaches(s, mode, gate, clock) & t.counts(mode, gate) {
+        let t = self.edge_first(s, mode, inputs);
+        if self.clock_reaches(s, mode, inputs) & t.counts(mode, inputs.gate) {
             return t.count_down(s, mode);
         }
         t
@@ -410,13 +411,14 @@ impl Timer {
 
     // One cycle as document 01 has it: gate edges, then clocks; held by internal reset, neither.
     #[tactic(auto, unfolding(crate::specs::Rules::cycle_of))]
-    pub fn full_cycle(mut self, s: Setting, gate: bool, clock: bool) -> Timer
+    pub fn full_cycle(self, s: Setting, gate: bool, clock: bool) -> Timer
         ensures { result ≡ cycle_of s gate clock self }
     {
+        let inputs = Inputs { gate, clock };
         if s.held {
-            return self.hold().sampled(gate, clock);
+            return self.hold().sampled(inputs);
         }
-        self.free_cycle(s, mode_of(s, self.control), gate, clock)
+        self.free_cycle(s, mode_of(s, self.control), inputs)
     }
 
     // Continuous, 16-bit and undivided, not in internal reset, with no gate edge.
@@ -427,8 +429,8 @@ impl Timer {
         !s.held
             & !s.divided
             & !s.dual
-            & (self.control / 8 % 2 == 0)
-            & (self.control / 32 % 2 == 0)
+            & !self.control_bit::<3>()
+            & !self.control_bit::<5>()
             & (self.gate == gate)
     }
 
@@ -444,7 +446,7 @@ impl Timer {
             self.lapsed = true;
             return self;
         }
-        self.counter = self.counter - 1;
+        self.counter -= 1;
         self
     }
 
@@ -461,8 +463,9 @@ impl Timer {
         self
     }
 
-    // One cycle, the quick way where it is plain. The rest works on copies, so that what is plain stays in registers.
-    pub fn cycle(mut self, s: Setting, gate: bool, clock: bool) -> Timer
+    // One cycle, the quick way where it is plain. The rest works on copies, so that what is plain stays in registers. Gate and clock are
+    // no struct here: that would go by a pointer, and the cycle would not be inlined, which takes the chips half as long again or twice.
+    pub fn cycle(self, s: Setting, gate: bool, clock: bool) -> Timer
         ensures { result ≡ cycle_of s gate clock self }
     {
         if self.plain(s, gate) {
@@ -479,7 +482,7 @@ impl Timer {
     fn load_by_write(self) -> Timer
         ensures { result ≡ written Mode.Continuous self }
     {
-        if self.control / 16 % 2 == 1 {
+        if self.control_bit::<4>() {
             return self;
         }
         self.initialise()
@@ -499,13 +502,9 @@ impl Timer {
         ensures { result ≡ written mode self }
     {
         match mode {
-            Mode::Continuous => self.load_by_write(),
-            Mode::SingleShot => self.load_by_write(),
+            Mode::Continuous | Mode::SingleShot => self.load_by_write(),
             Mode::Cascaded => self,
-            Mode::Interval {
-                pulse: _,
-                greater: _,
-            } => self.cancel(),
+            Mode::Interval { .. } => self.cancel(),
         }
     }
 
@@ -545,21 +544,23 @@ impl Timer {
     pub fn arm(mut self) -> Timer
         ensures { result ≡ armed_by self }
     {
-        self.armed = self.armed | self.flag;
+        self.armed |= self.flag;
         self
     }
 
     pub fn counter_msb(self) -> u8
         ensures { result ≡ msb self.counter }
     {
-        (self.counter / 256) as u8
+        let [msb, _] = self.counter.to_be_bytes();
+        msb
     }
 
     // What an MSB read copies to the LSB buffer.
     pub fn counter_lsb(self) -> u8
         ensures { result ≡ lsb self.counter }
     {
-        (self.counter % 256) as u8
+        let [_, lsb] = self.counter.to_be_bytes();
+        lsb
     }
 
     // An MSB read clears an armed flag.
@@ -582,7 +583,7 @@ impl Timer {
         Timer {
             latch: 65535,
             counter: 65535,
-            control: control,
+            control,
             divider: 0,
             flag: false,
             level: false,
@@ -590,8 +591,8 @@ impl Timer {
             lapsed: false,
             armed: false,
             running: false,
-            gate: gate,
-            clock: clock,
+            gate,
+            clock,
         }
     }
 
@@ -599,7 +600,7 @@ impl Timer {
     pub fn interrupts(self) -> bool
         ensures { result ≡ asks self }
     {
-        self.flag & (self.control / 64 % 2 == 1)
+        self.flag & self.control_bit::<6>()
     }
 
     // The divider stands where it can: 0 to 7.
@@ -613,15 +614,10 @@ impl Timer {
     pub fn pin(self, s: Setting) -> bool
         ensures { result ≡ pin_of s self }
     {
-        let enabled = self.level & (self.control / 128 % 2 == 1);
+        let enabled = self.level & self.control_bit::<7>();
         match mode_of(s, self.control) {
             Mode::Cascaded => self.level,
-            Mode::Continuous => enabled,
-            Mode::SingleShot => enabled,
-            Mode::Interval {
-                pulse: _,
-                greater: _,
-            } => enabled,
+            _ => enabled,
         }
     }
 }

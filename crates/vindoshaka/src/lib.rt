@@ -1,12 +1,14 @@
-// What a host links: start and report, and a move for each chip that is lent the host's board.
+// What a host links: start and report, and a move for each chip that is lent the host's board. C's names, and structs and numbers as C has
+// them, are its forms.
 #![tactic(auto)]
 
 ghost use Rattle.std.specs.Prelude.{◌≡◌};
 ghost use Rattle.board.specs.Calls.{move6846, move6840};
 ghost use Rattle.board.specs.Record.{start_of, report_of};
-ghost use Rattle.vindoshaka.specs.Host.{weight, level_bits, begun, seen, lent, told};
+ghost use Rattle.vindoshaka.specs.Host.{level_bits, begun, seen, lent, told, kept, said};
 
-use board::{Board, Pins, move_6840, move_6846, report, start};
+use board::{Board, Options, Pins, move_6840, move_6846, report, shown, start};
+use outcomes::Numbered;
 
 // The number of a move, and the cycles done.
 #[repr(C)]
@@ -32,79 +34,43 @@ pub struct Report {
     pub levels: u32,
 }
 
-// A move by value: the board to be put back, and what the caller is told.
-#[derive(Clone, Copy)]
-struct Ran {
-    board: Board,
-    moved: Moved,
-}
-
-#[tactic(auto, unfolding(crate::specs::Host::weight))]
-fn weigh(set: bool, value: u32) -> u32
-    ensures { result ≡ weight set value }
-{
-    if set {
-        return value;
-    }
-    0
-}
-
-#[tactic(auto, unfolding(crate::specs::Host::level_bits))]
+#[tactic(auto, unfolding(crate::specs::Host::level_bits, crate::specs::Host::weight))]
 fn level_bits(pins: Pins) -> u32
     ensures { result ≡ level_bits pins }
 {
-    (pins.port as u32)
-        + weigh(pins.cp2, 256)
-        + weigh(pins.cto, 512)
-        + weigh(pins.o1, 1024)
-        + weigh(pins.o2, 2048)
-        + weigh(pins.o3, 4096)
-        + weigh(pins.irq, 8192)
+    u32::from(pins.port)
+        + 256 * u32::from(pins.cp2)
+        + 512 * u32::from(pins.cto)
+        + 1024 * u32::from(pins.o1)
+        + 2048 * u32::from(pins.o2)
+        + 4096 * u32::from(pins.o3)
+        + 8192 * u32::from(pins.irq)
 }
 
 #[tactic(auto, unfolding(crate::specs::Host::seen))]
 fn see(board: Board) -> Report
     ensures { result ≡ seen (report_of board) }
 {
-    let pins = report(board);
-    let outcome = pins.outcome;
+    let outcome = report(board);
     Report {
         number: outcome.number(),
-        levels: level_bits(pins),
+        levels: level_bits(shown(outcome)),
     }
 }
 
-#[tactic(auto, unfolding(crate::specs::Host::told))]
-fn run_6846(board: Board, rom: &[u8], events: &[u32], answers: &mut [u16], cycles: u32) -> Ran
-    ensures gives { lent result.board result.moved answers.new ≡ told (move6846 rom.now events.now cycles board answers.old) }
-    ensures stays { result.moved.count ≡ 0 → result.board ≡ board }
+// What a host is told of a move; the board is stored only if a cycle was done.
+fn keep(board: &mut Board, moved: board::Moved) -> Moved
+    ensures board { board.new ≡ kept moved board.old }
+    ensures said { result ≡ said moved }
 {
-    let result = move_6846(board, rom, events, answers, cycles);
-    let after = result.board;
-    let outcome = result.outcome;
-    Ran {
-        board: after,
-        moved: Moved {
-            number: outcome.number(),
-            count: result.count,
-        },
+    let is_moved = 0 < moved.count;
+    if is_moved {
+        *board = moved.board;
     }
-}
-
-#[tactic(auto, unfolding(crate::specs::Host::told))]
-fn run_6840(board: Board, events: &[u32], answers: &mut [u16], cycles: u32) -> Ran
-    ensures gives { lent result.board result.moved answers.new ≡ told (move6840 events.now cycles board answers.old) }
-    ensures stays { result.moved.count ≡ 0 → result.board ≡ board }
-{
-    let result = move_6840(board, events, answers, cycles);
-    let after = result.board;
-    let outcome = result.outcome;
-    Ran {
-        board: after,
-        moved: Moved {
-            number: outcome.number(),
-            count: result.count,
-        },
+    let outcome = moved.outcome;
+    Moved {
+        number: outcome.number(),
+        count: moved.count,
     }
 }
 
@@ -121,16 +87,22 @@ pub extern "C" fn vindoshaka_start(
 ) -> Started
     ensures { result ≡ begun (start_of rom io a6 extra wire stamp) }
 {
-    let result = start(rom, io, a6, extra, wire, stamp);
-    let board = result.board;
-    let outcome = result.outcome;
+    let options = Options {
+        rom,
+        io,
+        a6,
+        extra,
+        wire,
+    };
+    let started = start(options, stamp);
+    let outcome = started.outcome;
     Started {
-        board: board,
+        board: started.board,
         number: outcome.number(),
     }
 }
 
-// Moves the 6846 of the lent board, which is stored only if a cycle was done.
+// Moves the 6846 of the lent board.
 #[unsafe(no_mangle)]
 pub extern "C" fn vindoshaka_move_6846(
     board: &mut Board,
@@ -141,14 +113,11 @@ pub extern "C" fn vindoshaka_move_6846(
 ) -> Moved
     ensures { lent board.new result answers.new ≡ told (move6846 rom.now events.now cycles board.old answers.old) }
 {
-    let ran = run_6846(*board, rom, events, answers, cycles);
-    if 0 < ran.moved.count {
-        *board = ran.board;
-    }
-    ran.moved
+    let moved = move_6846(*board, rom, events, answers, cycles);
+    keep(board, moved)
 }
 
-// Moves the 6840 of the lent board, which is stored only if a cycle was done.
+// Moves the 6840 of the lent board.
 #[unsafe(no_mangle)]
 pub extern "C" fn vindoshaka_move_6840(
     board: &mut Board,
@@ -158,11 +127,8 @@ pub extern "C" fn vindoshaka_move_6840(
 ) -> Moved
     ensures { lent board.new result answers.new ≡ told (move6840 events.now cycles board.old answers.old) }
 {
-    let ran = run_6840(*board, events, answers, cycles);
-    if 0 < ran.moved.count {
-        *board = ran.board;
-    }
-    ran.moved
+    let moved = move_6840(*board, events, answers, cycles);
+    keep(board, moved)
 }
 
 // The levels of the pins of the lent board, once both chips have done the same cycles.

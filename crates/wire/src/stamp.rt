@@ -1,12 +1,20 @@
 // Stamps: 32-bit numbers of cycles, which go round.
 ghost use Rattle.std.specs.Prelude.{◌≡◌};
+ghost use Rattle.wire.specs.Order.{span_of};
 ghost use Rattle.wire.specs.Stamp.{next_stamp, gap, lead_of, in_reach, driver_waits, listener_waits};
+
+// The stamps of the two chips on a wire.
+#[derive(Clone, Copy, PartialEq, Eq, Debug)]
+pub struct Stamps {
+    pub listener: u32,
+    pub driver: u32,
+}
 
 // The stamp after a cycle.
 pub fn next(stamp: u32) -> u32
     ensures { result ≡ next_stamp stamp }
 {
-    std::num::wrapping_add_u32(stamp, 1)
+    stamp.wrapping_add(1)
 }
 
 // How far `to` lies past `from`.
@@ -14,50 +22,57 @@ pub fn next(stamp: u32) -> u32
 pub fn ahead(from: u32, to: u32) -> u32
     ensures { result ≡ gap from to }
 {
-    std::num::wrapping_sub_u32(to, from)
+    to.wrapping_sub(from)
 }
 
-// The lead: below zero where the listener leads.
-#[tactic(auto, unfolding(crate::specs::Stamp::lead_of, crate::specs::Stamp::signed))]
-pub fn lead(listener: u32, driver: u32) -> i32
-    ensures { result ≡ lead_of listener driver }
-{
-    let past = ahead(listener, driver);
-    if past < 2147483648 {
-        past as i32
-    } else {
-        !((4294967295 - past) as i32)
+impl Stamps {
+    // The lead: below zero where the listener leads.
+    #[tactic(auto, unfolding(crate::specs::Stamp::lead_of, crate::specs::Stamp::signed))]
+    pub fn lead(self) -> i32
+        ensures { result ≡ lead_of self.listener self.driver }
+    {
+        let past = ahead(self.listener, self.driver);
+        past.cast_signed()
     }
-}
 
-// Whether the stamps are as near as the rules let them be.
-#[tactic(auto, unfolding(crate::specs::Stamp::in_reach, crate::specs::Stamp::listener_limit))]
-pub fn in_reach(listener: u32, driver: u32, wired: bool) -> bool
-    ensures { result ≡ in_reach listener driver wired }
-{
-    let far = lead(listener, driver);
-    if wired {
-        return (-1 <= far) & (far <= 65536);
+    // Whether the stamps are as near as the rules let them be.
+    #[tactic(auto, unfolding(crate::specs::Stamp::in_reach, crate::specs::Stamp::listener_limit))]
+    pub fn in_reach(self, wired: bool) -> bool
+        ensures { result ≡ in_reach self.listener self.driver wired }
+    {
+        let far = self.lead();
+        if wired {
+            return (-1 <= far) & (far <= 65536);
+        }
+        (-65536 <= far) & (far <= 65536)
     }
-    (-65536 <= far) & (far <= 65536)
-}
 
-// Whether the driver must wait.
-#[tactic(auto, unfolding(crate::specs::Stamp::driver_waits))]
-pub fn driver_waits(listener: u32, driver: u32) -> bool
-    ensures { result ≡ driver_waits listener driver }
-{
-    65536 <= lead(listener, driver)
-}
-
-// Whether the listener must wait.
-#[tactic(auto, unfolding(crate::specs::Stamp::listener_waits, crate::specs::Stamp::listener_limit))]
-pub fn listener_waits(listener: u32, driver: u32, wired: bool) -> bool
-    ensures { result ≡ listener_waits listener driver wired }
-{
-    let far = lead(listener, driver);
-    if wired {
-        return far <= -1;
+    // Whether the driver must wait.
+    #[tactic(auto, unfolding(crate::specs::Stamp::driver_waits))]
+    pub fn driver_waits(self) -> bool
+        ensures { result ≡ driver_waits self.listener self.driver }
+    {
+        65536 <= self.lead()
     }
-    far <= -65536
+
+    // Whether the listener must wait.
+    #[tactic(auto, unfolding(crate::specs::Stamp::listener_waits, crate::specs::Stamp::listener_limit))]
+    pub fn listener_waits(self, wired: bool) -> bool
+        ensures { result ≡ listener_waits self.listener self.driver wired }
+    {
+        let far = self.lead();
+        if wired {
+            return far <= -1;
+        }
+        far <= -65536
+    }
+
+    // How many cycles there are from the listener's stamp to the driver's.
+    #[tactic(auto, unfolding(crate::specs::Order::span_of))]
+    pub fn span(self) -> u32
+        ensures { result ≡ span_of self.listener self.driver }
+    {
+        let far = ahead(self.listener, self.driver);
+        if far < 2147483648 { far + 1 } else { 0 }
+    }
 }

@@ -1,4 +1,4 @@
--- Two texts compared from a place on. Assumes nothing.
+-- Whether two texts are the same, as the library's `==` says it. Assumes nothing.
 use Prim.Native.Nat.{ℕ, suc, ◌+◌, ◌≤◌, ◌<◌}
 use mathlib.Core.Path.{◌≡◌, refl, ap}
 use mathlib.Core.Bool.{Bool, true, false, ◌&&◌}
@@ -8,7 +8,16 @@ use borrow.Author.Tests.{eq-eqb, ne_eqb}
 use lib.Dec.{eqb}
 use lib.ListN.{length, drop, get_or, drop_of_length-le}
 use lib.Seq.{drop-cons}
+use Rattle.std.specs.Prelude.{nat_eq}
+use Rattle.std.specs.Cmp.Lexicographic.{pointwise}
 use Rattle.words.specs.Words.{same_text}
+
+pub same_pointwise : (a b : List ℕ) → pointwise nat_eq a b ≡ same_text a b
+unfolding same_text
+same_pointwise [] [] = refl
+same_pointwise [] (y ∷ ys) = refl
+same_pointwise (x ∷ xs) [] = refl
+same_pointwise (x ∷ xs) (y ∷ ys) = rw (same_pointwise xs ys) refl
 
 module _ (a b : List ℕ) (i : ℕ) (p : i < length a) (q : i < length b) where
   pub same_step : get_or a i 0 ≡ get_or b i 0 → same_text (drop i a) (drop i b) ≡ same_text (drop (i + 1) a) (drop (i + 1) b)

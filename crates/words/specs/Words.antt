@@ -1,7 +1,11 @@
 -- The words of a line.
-use Rattle.std.specs.Prelude.{ℕ, zero, suc, ◌+◌, ◌-◌, Bool, true, false, not, ◌&&◌, ◌||◌, List, [], ◌∷◌, take, drop, ltb, eqb}
+use Rattle.std.specs.Prelude.{◌≡◌, ℕ, zero, suc, ◌+◌, ◌-◌, Bool, true, false, not, ◌&&◌, ◌||◌, List, [], ◌∷◌, take, drop, ltb, eqb}
 use Rattle.words.specs.declared.Word.{Word}
 use Rattle.lines.specs.Bytes.{run}
+
+-- what a test answers of each byte
+abbrev pub Computes : (ℕ → Bool → Type 0) → (ℕ → Bool) → Type 0
+Computes answers p = (byte : ℕ) (b : Bool) → answers byte b → b ≡ p byte
 
 -- words are parted by spaces or tabs
 abbrev pub blank : ℕ → Bool

@@ -1,11 +1,13 @@
 // The words of a line.
 #![tactic(auto)]
 
-ghost use Rattle.std.specs.Prelude.{◌≡◌};
-ghost use Rattle.words.specs.Words.{blank, letter, blanks_end, word_end, word_after, word_of, text_of, filled_at, same_text};
+ghost use Rattle.std.specs.Prelude.{◌≡◌, ◌+◌, ℕ, Bool, drop};
+ghost use Rattle.lines.specs.Bytes.{run};
+ghost use Rattle.words.specs.Words.{Computes, blank, letter, word_after, word_of, text_of, filled_at, same_text};
 
 // Where a word starts and ends; nothing stands between where there is none.
-#[derive(Clone, Copy)]
+// No `Option`: `find` promises a place for a word that is not there, too.
+#[derive(Clone, Copy, Debug, PartialEq, Eq)]
 pub struct Word {
     pub from: usize,
     pub to: usize,
@@ -14,43 +16,31 @@ pub struct Word {
 fn is_blank(byte: u8) -> bool
     ensures { result ≡ blank byte }
 {
-    (byte == b' ') | (byte == b'\t')
+    matches!(byte, b' ' | b'\t')
 }
 
 fn is_letter(byte: u8) -> bool
     ensures { result ≡ letter byte }
 {
-    !(is_blank(byte) | (byte == b'#'))
+    !is_blank(byte) && byte != b'#'
 }
 
-// Past the blanks from a place on.
-fn blanks_end(line: &[u8], at: usize) -> usize
-    ensures { result ≡ blanks_end line.now at }
+// What stands from a place on.
+fn rest(line: &[u8], at: usize) -> &[u8]
+    ensures { result.now ≡ drop at line.now }
 {
-    let mut i = at;
-    while i < line.len() {
-        if is_blank(line[i]) {
-            i += 1;
-        } else {
-            return i;
-        }
-    }
-    i
+    line.get(at..).unwrap_or_default()
 }
 
-// Past the letters from a place on.
-fn word_end(line: &[u8], at: usize) -> usize
-    ensures { result ≡ word_end line.now at }
+// Past the bytes of a kind from a place on.
+fn end_of<F: Fn(u8) -> bool>(line: &[u8], at: usize, is_of: F) -> usize
+    requires { F.IsAlwaysCallable is_of }
+    ensures { (p : ℕ → Bool) → Computes (F.post is_of) p → result ≡ at + run p (drop at line.now) }
 {
-    let mut i = at;
-    while i < line.len() {
-        if is_letter(line[i]) {
-            i += 1;
-        } else {
-            return i;
-        }
-    }
-    i
+    at + rest(line, at)
+        .iter()
+        .take_while(|byte| is_of(**byte))
+        .count()
 }
 
 // The next word from a place on.
@@ -58,22 +48,19 @@ fn word_end(line: &[u8], at: usize) -> usize
 fn word_after(line: &[u8], at: usize) -> Word
     ensures { result ≡ word_after line.now at }
 {
-    let from = blanks_end(line, at);
-    Word {
-        from: from,
-        to: word_end(line, from),
-    }
+    let from = end_of(line, at, is_blank);
+    let to = end_of(line, from, is_letter);
+    Word { from, to }
 }
 
 // Word `n` of a line, from 0.
+#[tactic(auto, using(crate::proofs::Within::word_next), unfolding(crate::specs::Words::word_of))]
 pub fn find(line: &[u8], n: usize) -> Word
     ensures { result ≡ word_of line.now n }
 {
     let mut w = word_after(line, 0);
-    let mut i = 0;
-    while i < n {
+    for _ in 0..n {
         w = word_after(line, w.to);
-        i += 1;
     }
     w
 }
@@ -84,9 +71,7 @@ pub fn text(line: &[u8], n: usize) -> &[u8]
     ensures { result.now ≡ text_of line.now n }
 {
     let w = find(line, n);
-    let from = w.from;
-    let to = w.to;
-    &line[from..to]
+    &line[w.from..w.to]
 }
 
 // Whether a line has a word `n`.
@@ -98,19 +83,9 @@ pub fn filled(line: &[u8], n: usize) -> bool
 }
 
 // Whether two texts are the same.
+#[tactic(auto, using(crate::proofs::Sames::same_pointwise))]
 pub fn same(a: &[u8], b: &[u8]) -> bool
     ensures { result ≡ same_text a.now b.now }
 {
-    if a.len() == b.len() {
-        let mut i = 0;
-        while i < a.len() {
-            if a[i] == b[i] {
-                i += 1;
-            } else {
-                return false;
-            }
-        }
-        return true;
-    }
-    false
+    a == b
 }

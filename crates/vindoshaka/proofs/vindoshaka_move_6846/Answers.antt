@@ -1,16 +1,11 @@
 -- What counts no cycle leaves the board as given.
-use Rattle.std.proofs.Common.{◌≡◌, ap, sym, ◌∙◌, arith}
-use Rattle.board.specs.declared.Board.{Board}
-use Rattle.vindoshaka.specs.Host.{lent}
+use Rattle.std.proofs.Common.{ap}
+use Rattle.vindoshaka.specs.Host.{told}
+use Rattle.vindoshaka.proofs.Laws.{kept_is}
 use Rattle.vindoshaka.proofs.vindoshaka_move_6846.Goals as goal
-use Rattle.vindoshaka.proofs.vindoshaka_move_6846.Goals.{then-ran-gt0, else-ran-gt0}
 
 pub returns : goal.returns
+unfolding told
 returns c =
-    let r = c.run_6846-ran in
-    elim c.if-ran-gt0.branch [
-      | then-ran-gt0 w ↦ rw w.board-is r.ensures.gives
-      | else-ran-gt0 w ↦
-          let none : r.result.moved.count ≡ 0 = omega (arith, w.if-ran-gt0.false) in
-          rw w.board-is (ap (λ (b : Board). lent b r.result.moved r.new.answers) (sym (r.ensures.stays none)) ∙ r.ensures.gives)
-    ]
+    let m = c.move_6846-moved in
+    rw (c.keep.ensures.board, c.keep.ensures.said, kept_is m.result c.args.board.now m.ensures.stays) (ap told m.ensures.gives)

@@ -1,0 +1,16 @@
+-- A move that counts no cycle leaves the board as given.
+use Rattle.std.proofs.Common.{ap, sym, ◌∙◌, arith}
+use Rattle.board.specs.declared.Moved.{Moved}
+use Rattle.board.specs.Calls.{Result, refused}
+use Rattle.board.proofs.Count.{none_moved_6840}
+use Rattle.board.proofs.move_6840.Goals as goal
+
+pub returns-in-Ok-clause-stays : goal.returns-in-Ok-clause-stays
+returns-in-Ok-clause-stays c z =
+    let e = c.run_6840.ensures in
+    ap (λ (x : Result). x.moved.board) e ∙
+    none_moved_6840 c.args.events.now c.args.cycles c.args.board c.args.answers.now (omega arith) (omega arith) (ap (λ (x : Result). x.moved.count) (sym e) ∙ z)
+
+pub returns-in-Err-clause-stays : goal.returns-in-Err-clause-stays
+unfolding refused
+returns-in-Err-clause-stays c z = ap (λ (m : Moved). m.board) c.refuse.ensures
