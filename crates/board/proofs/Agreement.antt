@@ -140,7 +140,7 @@ module _ (S : Setup) where
     calls6840 : (n : ℕ) → Calls (w.called (pair S) w.listener n (held S h)) (called_on S the6840 n h)
     unfolding called_on after6840 put6840 begun6840
     calls6840 n =
-        let s = s6840.run_sim S h.board.stamp6846 (side6846 S h) n world6840 refl (record { chip = k.ptm; done = k.done40; answers = k.answers40; places = k.places }) in
+        let s = s6840.run_sim S h.board.stamp6846 (side6846 S h) n world6840 refl (record { chip = k.ptm; done = k.done40; answers = k.answers40 }) in
         let p = places_stay (record { wire = S.wire; wired = wired_by S.wire; other = h.board.stamp6846; cto = cto_of h.board.combo }) S.events6840 n world6840 in
         rw (moves6840 n) (
           rw p at s.0,

@@ -65,7 +65,6 @@ module _ (S : Setup) (other : ℕ) (x : Side6846) where
     pub chip : in_range u.run.chip ≡ true
     pub done : u.run.done ≤ length S.events6840 / 3
     pub answers : length u.answers ≡ length S.answers6840
-    pub places : length u.places ≡ 64
 
   -- what a step of the run comes to, beside a cycle of the listener
   abbrev Steps : w.Cycled (pair S) → World → World → Type 0
@@ -119,7 +118,6 @@ module _ (S : Setup) (other : ℕ) (x : Side6846) where
         chip = cycle_in_range (wired_of S.wire (heard u) (levels_of c.levels)) (access_of c.access) u.run.chip k.chip;
         done = q;
         answers = answered-length u.answers u.run.done c.done (place_of (ran (heard u)).answer) ∙ k.answers;
-        places = k.places;
       },
     )
 
@@ -153,7 +151,7 @@ module _ (S : Setup) (other : ℕ) (x : Side6846) where
       Runs (record { board = in_move u; number = w.number_of r; count = 0 }) (runs n t)
   stopped-runs n u t r k e =
       let f : runs n t ≡ world u.run u.answers u.places (Err (stop_of r)) = run-stopped going _ n t (rw e (refusal_stops (stop_of r))) ∙ e in
-      rw f (refl, stop-number r, record { chip = k.chip; done = k.done; answers = k.answers; places = k.places })
+      rw f (refl, stop-number r, record { chip = k.chip; done = k.done; answers = k.answers })
 
   pub run_sim : (n : ℕ) (u : World) → u.outcome ≡ Done → Sound u → Runs (w.called (pair S) w.listener n (in_move u)) (runs n u)
   run_sim zero u o k =

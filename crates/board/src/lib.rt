@@ -8,7 +8,7 @@ ghost use Rattle.board.specs.Calls.{result_of, list_fits, list_checked, checked6
 use lists::moves::{self, Run};
 use mc6840::Ptm;
 use mc6846::{Combo, Select};
-use mover6840::{Given6840, Mover6840};
+use mover6840::{Given6840, run_6840};
 use mover6846::{Given6846, Mover6846};
 use outcomes::{Refusal, ReportRefusal, StartRefusal};
 use wire::book::Ends;
@@ -315,12 +315,14 @@ impl Board {
     fn run_6840(self, events: &[u32], answers: &mut [u16], cycles: u32) -> Moved
         ensures { result_of result answers.new ≡ moved6840 events.now cycles self answers.old }
     {
-        let mut places = self.places;
-        let mover = Mover6840 {
-            given: self.given_6840(),
+        let ran = run_6840(
+            self.begin_6840(),
+            self.given_6840(),
             events,
-        };
-        let ran = moves::make(&mover, self.begin_6840(), answers, &mut places, cycles);
+            answers,
+            &self.places,
+            cycles,
+        );
         Moved {
             board: self.put_6840(ran.run),
             outcome: ran.outcome,

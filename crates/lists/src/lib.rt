@@ -87,15 +87,22 @@ pub fn next<S: Signals>(events: &[u32], done: usize, stamp: u32, held: u32) -> O
 
 // An event's answer goes to its place; a cycle without event writes nothing.
 #[tactic(auto, unfolding(crate::specs::Events::answered))]
-pub fn answer(answers: &mut [u16], before: usize, after: usize, byte: Option<u8>)
-    ensures { answers.new ≡ answered answers.old before after (place_of byte) }
+pub fn write_answer(answers: &mut [u16], before: usize, after: usize, value: u16)
+    ensures { answers.new ≡ answered answers.old before after value }
 {
     if before == after {
         return;
     }
     if before < answers.len() {
-        answers[before] = place(byte);
+        answers[before] = value;
     }
+}
+
+// The same for what a chip drove, if anything.
+pub fn answer(answers: &mut [u16], before: usize, after: usize, byte: Option<u8>)
+    ensures { answers.new ≡ answered answers.old before after (place_of byte) }
+{
+    write_answer(answers, before, after, place(byte));
 }
 
 // 256 where nothing was driven.

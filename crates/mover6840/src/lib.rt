@@ -4,9 +4,9 @@
 ghost use Rattle.std.specs.Prelude.{◌≡◌};
 ghost use Rattle.outcomes.specs.Numbers.{Done};
 ghost use Rattle.lists.specs.Moves.{world, went};
-ghost use Rattle.mover6840.specs.Cycle.{seen, step_of};
+ghost use Rattle.mover6840.specs.Cycle.{seen, step_of, run_of};
 
-use lists::moves::{Mover, Run};
+use lists::moves::{self, Mover, Ran, Run};
 use lists::{answer, next};
 use mc6840::Ptm;
 use outcomes::Refusal;
@@ -69,4 +69,20 @@ impl<'a> Mover for Mover6840<'a> {
         answer(answers, run.done, cycle.done, after.answer);
         Ok(run.go_on(after.chip, cycle.levels, cycle.done, ends))
     }
+}
+
+// A move of so many cycles. The book is only read: a move makes its cycles on a copy, as the other chip's write it.
+pub fn run_6840(
+    run: Run<Ptm>,
+    given: Given6840,
+    events: &[u32],
+    answers: &mut [u16],
+    places: &[u32; 64],
+    cycles: u32,
+) -> Ran<Ptm>
+    ensures { world result.run answers.new places.now result.outcome ≡ run_of given events.now cycles (world run answers.old places.now Done) }
+{
+    let mut places = *places;
+    let mover = Mover6840 { given, events };
+    moves::make(&mover, run, answers, &mut places, cycles)
 }

@@ -4,8 +4,8 @@ ghost use Rattle.board.specs.Record.{shown_of};
 ghost use Rattle.texts.specs.Texts.{levels_text};
 
 use crate::list::{List, listed};
-use crate::page::{Loss, Page, put, tell};
-use crate::source::read_rom;
+use crate::page::{Loss, Page, put, tell, tell_answers};
+use crate::source::Rom;
 use crate::stop::Stop;
 use board::{Board, Options, Pins};
 use outcomes::{Numbered, ReportRefusal};
@@ -18,7 +18,7 @@ use std::rt::Files;
 pub struct Desk {
     // none before the first start
     board: Option<Board>,
-    rom: Vec<u8>,
+    rom: Rom,
     mc6846: List,
     mc6840: List,
     page: Page,
@@ -28,7 +28,7 @@ impl Desk {
     pub fn new(alloc: Global, page: Page) -> Desk {
         Desk {
             board: None,
-            rom: Vec::new(alloc),
+            rom: Rom::new(),
             mc6846: List::new(alloc),
             mc6840: List::new(alloc),
             page,
@@ -40,13 +40,10 @@ impl Desk {
         self.page.get_ref().loss()
     }
 
-    pub fn obey<R: Files + AllocGlobal>(&mut self, rt: &R, line: &[u8]) -> Result<(), Stop> {
+    pub fn obey<R: Files>(&mut self, rt: &R, line: &[u8]) -> Result<(), Stop> {
         match runfile::decode(line)? {
             Command::Empty => Ok(()),
-            Command::Rom => {
-                self.rom = read_rom(rt, words::text(line, 1))?;
-                Ok(())
-            }
+            Command::Rom => self.rom.read(rt, words::text(line, 1)),
             Command::Start(start) => self.start(start),
             Command::Event { chip, event } => {
                 self.board()?;
@@ -85,7 +82,7 @@ impl Desk {
         self.board = Some(started.board);
         self.mc6846.clear();
         self.mc6840.clear();
-        tell(&mut self.page, "start", &[started.outcome.number()])?;
+        tell(&mut self.page, &[("start ", started.outcome.number())])?;
         Ok(())
     }
 
@@ -96,25 +93,25 @@ impl Desk {
             Chip::Mc6846 => {
                 let List { words, answers } = &mut self.mc6846;
                 let events = listed(words, answers.len());
-                let moved = board::move_6846(board, &self.rom, events, answers, cycles);
-                ("6846", moved)
+                let moved = board::move_6846(board, self.rom.bytes(), events, answers, cycles);
+                ("6846 ", moved)
             }
             Chip::Mc6840 => {
                 let List { words, answers } = &mut self.mc6840;
                 let events = listed(words, answers.len());
                 let moved = board::move_6840(board, events, answers, cycles);
-                ("6840", moved)
+                ("6840 ", moved)
             }
         };
         self.board = Some(moved.board);
-        let numbers = [moved.outcome.number(), moved.count];
-        tell(&mut self.page, name, &numbers)?;
+        let parts = [(name, moved.outcome.number()), (" ", moved.count)];
+        tell(&mut self.page, &parts)?;
         Ok(())
     }
 
     fn report(&mut self) -> Result<(), Stop> {
         let seen = board::report(self.board()?);
-        put(&mut self.page, "report", &[seen.number()])?;
+        put(&mut self.page, "report ", seen.number())?;
         self.page.write_all(b" ")?;
         self.page.write_all(&levels(seen))?;
         self.page.write_all(b"\n")?;
@@ -123,20 +120,24 @@ impl Desk {
 
     fn tell_stamps(&mut self) -> Result<(), Stop> {
         let board = self.board()?;
-        let numbers = [board.stamp6846, board.stamp6840, board.ends.waiting];
-        tell(&mut self.page, "stamps", &numbers)?;
+        let parts = [
+            ("stamps ", board.stamp6846),
+            (" ", board.stamp6840),
+            (" ", board.ends.waiting),
+        ];
+        tell(&mut self.page, &parts)?;
         Ok(())
     }
 
     fn tell_answers(&mut self) -> Result<(), Stop> {
         self.board()?;
-        tell(&mut self.page, "answers 6846", &self.mc6846.answers)?;
-        tell(&mut self.page, "answers 6840", &self.mc6840.answers)?;
+        tell_answers(&mut self.page, "answers 6846", &self.mc6846.answers)?;
+        tell_answers(&mut self.page, "answers 6840", &self.mc6840.answers)?;
         Ok(())
     }
 
     pub fn tell_stop(&mut self, line: u32) -> io::Result<()> {
-        tell(&mut self.page, "stopped at line", &[line])
+        tell(&mut self.page, &[("stopped at line ", line)])
     }
 
     pub fn flush(&mut self) -> io::Result<()> {

@@ -46,8 +46,10 @@ impl List {
         if MOST_EVENTS <= self.answers.len() {
             return Err(Stop::ManyEvents);
         }
-        // First, so that no push fails once the words are there.
-        self.answers.reserve(1)?;
+        // All that a list may need comes with its first event, as room that grows needs more than that while it moves.
+        let left = MOST_EVENTS - self.answers.len();
+        self.words.reserve(3 * left)?;
+        self.answers.reserve(left)?;
         self.words
             .extend_from_slice(&[event.stamp, event.levels, event.access])?;
         self.answers.push(UNANSWERED)?;

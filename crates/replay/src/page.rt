@@ -65,19 +65,26 @@ pub fn page(alloc: Global, stdout: Stdout) -> io::Result<Page> {
     BufWriter::with_capacity(alloc, CAPACITY, output)
 }
 
-// A name and numbers behind it.
-pub fn put<N: Copy + Into<u32>>(page: &mut Page, name: &str, numbers: &[N]) -> io::Result<()> {
-    page.write_all(name.as_bytes())?;
-    for number in numbers {
-        page.write_all(b" ")?;
-        page.write_all(texts::decimal((*number).into()).as_bytes())?;
-    }
-    Ok(())
+// A text and a number behind it. A blank goes with its text, as a full page is cut between two writes.
+pub fn put(page: &mut Page, text: &str, number: u32) -> io::Result<()> {
+    page.write_all(text.as_bytes())?;
+    page.write_all(texts::decimal(number).as_bytes())
 }
 
 // A line of them.
-pub fn tell<N: Copy + Into<u32>>(page: &mut Page, name: &str, numbers: &[N]) -> io::Result<()> {
-    put(page, name, numbers)?;
+pub fn tell(page: &mut Page, parts: &[(&str, u32)]) -> io::Result<()> {
+    for (text, number) in parts {
+        put(page, text, *number)?;
+    }
+    page.write_all(b"\n")
+}
+
+// A name and answers behind it.
+pub fn tell_answers(page: &mut Page, name: &str, answers: &[u16]) -> io::Result<()> {
+    page.write_all(name.as_bytes())?;
+    for answer in answers {
+        put(page, " ", u32::from(*answer))?;
+    }
     page.write_all(b"\n")
 }
 

@@ -1,6 +1,7 @@
 // Files: the run file in pieces, and a ROM.
 ghost use Rattle.std.specs.Prelude.{◌≡◌, ◌≤◌, length, vec_len, IfOk};
 ghost use Rattle.replay.specs.Parts.{between, on_from};
+ghost use Rattle.replay.specs.declared.source.TheConstants.{LONGEST_ROM};
 
 use crate::stop::Stop;
 use lines::Line;
@@ -138,19 +139,47 @@ fn read_full(file: &mut impl Read, buffer: &mut [u8]) -> usize
     done
 }
 
-// Reads a whole ROM, which ends where a read behind the first fails.
-pub fn read_rom<R: Files + AllocGlobal>(rt: &R, path: &[u8]) -> Result<Vec<u8>, Stop>
-    ensures { IfOk result (λ rom. vec_len rom ≤ LONGEST_ROM) }
-{
-    let mut file = open(rt, path).map_err(|_| Stop::UnreadableRom)?;
-    let mut rom = vec![in rt.alloc(); 0; LONGEST_ROM + 1]?;
-    let Ok(first) = file.read(&mut rom) else {
-        return Err(Stop::UnreadableRom);
-    };
-    let length = first + read_full(&mut file, &mut rom[first..]);
-    if LONGEST_ROM < length {
-        return Err(Stop::LongRom);
+// The ROM, in a room of one length for good, so that a read has nothing to clear first. One that cannot be read leaves other bytes there; the
+// run stops at its line.
+#[derive(Drop)]
+pub struct Rom {
+    room: [u8; 65537],
+    length: usize,
+    ghost short: { length ≤ LONGEST_ROM },
+}
+
+impl Rom {
+    // None is read yet.
+    pub fn new() -> Rom
+        ensures { result.length ≡ 0 }
+    {
+        Rom {
+            room: [0; 65537],
+            length: 0,
+        }
     }
-    rom.truncate(length);
-    Ok(rom)
+
+    #[tactic(auto, unfolding(crate::specs::Parts::between))]
+    pub fn bytes(&self) -> &[u8]
+        ensures rom { result.now ≡ between self.now.room 0 self.now.length }
+        ensures short { length result.now ≤ LONGEST_ROM }
+    {
+        within(&self.room, 0, self.length)
+    }
+
+    // Reads a whole ROM, which ends where a read behind the first fails.
+    pub fn read<R: Files>(&mut self, rt: &R, path: &[u8]) -> Result<(), Stop>
+        ensures { self.new.length ≤ LONGEST_ROM }
+    {
+        let mut file = open(rt, path).map_err(|_| Stop::UnreadableRom)?;
+        let Ok(first) = file.read(&mut self.room) else {
+            return Err(Stop::UnreadableRom);
+        };
+        let length = first + read_full(&mut file, &mut self.room[first..]);
+        if LONGEST_ROM < length {
+            return Err(Stop::LongRom);
+        }
+        self.length = length;
+        Ok(())
+    }
 }

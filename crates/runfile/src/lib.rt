@@ -69,7 +69,7 @@ impl From<BadNumber> for Mistake {
 
 // The commands that a name begins.
 #[derive(Clone, Copy, Debug, PartialEq, Eq)]
-enum Name {
+pub enum Name {
     Start,
     Rom,
     Move,

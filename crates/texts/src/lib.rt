@@ -1,38 +1,30 @@
 // The text of an answer.
 #![tactic(auto)]
 
-ghost use Rattle.std.specs.Prelude.{◌≡◌, ◌≤◌, ℕ, List, drop};
+ghost use Rattle.std.specs.Prelude.{◌≡◌, ◌≤◌, length, drop};
 ghost use Rattle.texts.specs.Texts.{decimal_of, sign, levels_text};
 
-use std::marker::Model;
-
-// The digits of a number, at the end of their room.
-#[derive(Drop)]
+// The digits of a number: the bytes from a place to the end. No Model, whose view would have no way back, so that it is Copy.
+#[derive(Clone, Copy)]
 pub struct Digits {
-    bytes: [u8; 10],
-    from: usize,
-}
-
-impl Model for Digits {
-    ghost Value = { List ℕ };
-
-    ghost view = { λ d. drop d.from d.bytes };
-
-    ghost invariant = { λ d. d.from ≤ 10 };
+    pub bytes: [u8; 10],
+    pub from: usize,
 }
 
 impl Digits {
+    // None where the place lies past the end.
     pub fn as_bytes(&self) -> &[u8]
-        ensures { result.now ≡ self.now }
+        ensures { result.now ≡ drop self.now.from self.now.bytes }
     {
-        &self.bytes[self.from..]
+        self.bytes.get(self.from..).unwrap_or_default()
     }
 }
 
 // The decimal digits of a number, without zeros in front.
 #[tactic(auto, using(crate::proofs::Decimals::last_digit, crate::proofs::Decimals::no_digit))]
 pub fn decimal(n: u32) -> Digits
-    ensures { result ≡ decimal_of n }
+    ensures bytes_value { drop result.from result.bytes ≡ decimal_of n }
+    ensures value { (10 ≡ length result.bytes) × (result.from ≤ 10) }
 {
     let mut bytes = [0; 10];
     let mut rest = n;

@@ -83,7 +83,7 @@ pub fn filled(line: &[u8], n: usize) -> bool
 }
 
 // Whether two texts are the same.
-#[tactic(auto, using(crate::proofs::Sames::same_pointwise))]
+#[tactic(auto, using(crate::proofs::Sames::same_pointwise, crate::proofs::Sames::same_length, crate::proofs::Sames::same_tells))]
 pub fn same(a: &[u8], b: &[u8]) -> bool
     ensures { result ≡ same_text a.now b.now }
 {
