@@ -8,6 +8,8 @@ use std::alloc::Global;
 
 const MOST_EVENTS: usize = 65536;
 
+const A_FEW: usize = 64;
+
 // What a place holds until its answer is written.
 const UNANSWERED: u16 = 43981;
 
@@ -46,10 +48,12 @@ impl List {
         if MOST_EVENTS <= self.answers.len() {
             return Err(Stop::ManyEvents);
         }
-        // All that a list may need comes with its first event, as room that grows needs more than that while it moves.
-        let left = MOST_EVENTS - self.answers.len();
-        self.words.reserve(3 * left)?;
-        self.answers.reserve(left)?;
+        // Room for a few, and then for all that a list may have, as room that grows and grows needs more while it moves. Both before the words, so
+        // that no push fails once they are there.
+        let count = self.answers.len();
+        let room = if count < A_FEW { A_FEW } else { MOST_EVENTS };
+        self.words.reserve(3 * (room - count))?;
+        self.answers.reserve(room - count)?;
         self.words
             .extend_from_slice(&[event.stamp, event.levels, event.access])?;
         self.answers.push(UNANSWERED)?;
