@@ -10,8 +10,6 @@ use crate::stop::Stop;
 use board::{Board, Options, Pins};
 use outcomes::{Numbered, ReportRefusal};
 use runfile::{Chip, Command, Start};
-use std::alloc::Global;
-use std::io::{self, Write};
 use std::rt::Files;
 
 #[derive(Drop)]
@@ -25,26 +23,29 @@ pub struct Desk {
 }
 
 impl Desk {
-    pub fn new(alloc: Global, page: Page) -> Desk {
+    pub fn new(page: Page) -> Desk {
         Desk {
             board: None,
             rom: Rom::new(),
-            mc6846: List::new(alloc),
-            mc6840: List::new(alloc),
+            mc6846: List::new(),
+            mc6840: List::new(),
             page,
         }
     }
 
     // Why not all of the output was taken, if so.
     pub fn loss(&self) -> Option<Loss> {
-        self.page.get_ref().loss()
+        self.page.loss()
     }
 
     pub fn obey<R: Files>(&mut self, rt: &R, line: &[u8]) -> Result<(), Stop> {
         match runfile::decode(line)? {
             Command::Empty => Ok(()),
             Command::Rom => self.rom.read(rt, words::text(line, 1)),
-            Command::Start(start) => self.start(start),
+            Command::Start(start) => {
+                self.start(start);
+                Ok(())
+            }
             Command::Event { chip, event } => {
                 self.board()?;
                 self.list(chip).add(event)
@@ -70,7 +71,7 @@ impl Desk {
     }
 
     // A refused start has a board, too.
-    fn start(&mut self, start: Start) -> Result<(), Stop> {
+    fn start(&mut self, start: Start) {
         let options = Options {
             rom: start.rom,
             io: start.io,
@@ -82,8 +83,7 @@ impl Desk {
         self.board = Some(started.board);
         self.mc6846.clear();
         self.mc6840.clear();
-        tell(&mut self.page, &[("start ", started.outcome.number())])?;
-        Ok(())
+        tell(&mut self.page, &[("start ", started.outcome.number())]);
     }
 
     // An arm a chip: the board's two moves take different things.
@@ -105,16 +105,16 @@ impl Desk {
         };
         self.board = Some(moved.board);
         let parts = [(name, moved.outcome.number()), (" ", moved.count)];
-        tell(&mut self.page, &parts)?;
+        tell(&mut self.page, &parts);
         Ok(())
     }
 
     fn report(&mut self) -> Result<(), Stop> {
         let seen = board::report(self.board()?);
-        put(&mut self.page, "report ", seen.number())?;
-        self.page.write_all(b" ")?;
-        self.page.write_all(&levels(seen))?;
-        self.page.write_all(b"\n")?;
+        put(&mut self.page, "report ", seen.number());
+        self.page.write(b" ");
+        self.page.write(&levels(seen));
+        self.page.write(b"\n");
         Ok(())
     }
 
@@ -125,23 +125,23 @@ impl Desk {
             (" ", board.stamp6840),
             (" ", board.ends.waiting),
         ];
-        tell(&mut self.page, &parts)?;
+        tell(&mut self.page, &parts);
         Ok(())
     }
 
     fn tell_answers(&mut self) -> Result<(), Stop> {
         self.board()?;
-        tell_answers(&mut self.page, "answers 6846", &self.mc6846.answers)?;
-        tell_answers(&mut self.page, "answers 6840", &self.mc6840.answers)?;
+        tell_answers(&mut self.page, "answers 6846", &self.mc6846.answers);
+        tell_answers(&mut self.page, "answers 6840", &self.mc6840.answers);
         Ok(())
     }
 
-    pub fn tell_stop(&mut self, line: u32) -> io::Result<()> {
-        tell(&mut self.page, &[("stopped at line ", line)])
+    pub fn tell_stop(&mut self, line: u32) {
+        tell(&mut self.page, &[("stopped at line ", line)]);
     }
 
-    pub fn flush(&mut self) -> io::Result<()> {
-        self.page.flush()
+    pub fn flush(&mut self) {
+        self.page.flush();
     }
 }
 

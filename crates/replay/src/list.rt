@@ -1,33 +1,34 @@
 // A chip's list of events and its answer places.
-ghost use Rattle.std.specs.Prelude.{◌≡◌, ◌≤◌, ◌*◌, ◌↔◌, ◌⊎◌, [], ◌∷◌, ◌++◌, vec_len, IsErrOf, IfErr, OnOk, OnErr};
+ghost use Rattle.std.specs.Prelude.{◌≡◌, ◌≤◌, ◌*◌, ◌↔◌, [], ◌∷◌, ◌++◌, IsErrOf, IfErr, OnOk, OnErr};
+ghost use Rattle.arrayvec.specs.ArrayVec.{array_vec_len};
 ghost use Rattle.replay.specs.Parts.{in_use};
 
 use crate::stop::Stop;
+use arrayvec::ArrayVec;
 use runfile::Event;
-use std::alloc::Global;
 
 const MOST_EVENTS: usize = 65536;
 
-const A_FEW: usize = 64;
+const MOST_WORDS: usize = 3 * MOST_EVENTS;
 
 // What a place holds until its answer is written.
 const UNANSWERED: u16 = 43981;
 
-// The board takes the events' words and the places of their answers as two slices.
+// The board takes the events' words and the places of their answers as two slices. Their room lies in the list, so that no event asks for memory.
 #[derive(Drop)]
 pub struct List {
-    pub words: Vec<u32>,
-    pub answers: Vec<u16>,
-    ghost whole: { vec_len words ≡ 3 * vec_len answers },
+    pub words: ArrayVec<u32, MOST_WORDS>,
+    pub answers: ArrayVec<u16, MOST_EVENTS>,
+    ghost whole: { array_vec_len words ≡ 3 * array_vec_len answers },
 }
 
 impl List {
-    pub fn new(alloc: Global) -> List
+    pub fn new() -> List
         ensures { result.answers.items ≡ [] }
     {
         List {
-            words: Vec::new(alloc),
-            answers: Vec::new(alloc),
+            words: ArrayVec::new(),
+            answers: ArrayVec::new(),
         }
     }
 
@@ -41,22 +42,17 @@ impl List {
     pub fn add(&mut self, event: Event) -> Result<(), Stop>
         ensures words { OnOk result (self.new.words.items ≡ self.old.words.items ++ event.stamp ∷ event.levels ∷ event.access ∷ []) }
         ensures place { OnOk result (self.new.answers.items ≡ self.old.answers.items ++ UNANSWERED ∷ []) }
-        ensures full { IsErrOf result Stop.ManyEvents ↔ (MOST_EVENTS ≤ vec_len self.old.answers) }
-        ensures memory { IfErr result (λ stop. (stop ≡ Stop.ManyEvents) ⊎ (stop ≡ Stop.OutOfMemory)) }
+        ensures full { IsErrOf result Stop.ManyEvents ↔ (MOST_EVENTS ≤ array_vec_len self.old.answers) }
+        ensures reason { IfErr result (λ stop. stop ≡ Stop.ManyEvents) }
         ensures err { OnErr result ((self.new.words.items ≡ self.old.words.items) × (self.new.answers.items ≡ self.old.answers.items)) }
     {
         if MOST_EVENTS <= self.answers.len() {
             return Err(Stop::ManyEvents);
         }
-        // Room for a few, and then for all that a list may have, as room that grows and grows needs more while it moves. Both before the words, so
-        // that no push fails once they are there.
-        let count = self.answers.len();
-        let room = if count < A_FEW { A_FEW } else { MOST_EVENTS };
-        self.words.reserve(3 * (room - count))?;
-        self.answers.reserve(room - count)?;
-        self.words
-            .extend_from_slice(&[event.stamp, event.levels, event.access])?;
-        self.answers.push(UNANSWERED)?;
+        let words = [event.stamp, event.levels, event.access];
+        // Both have room, as there are three words for each place.
+        let _ = self.words.try_extend_from_slice(&words);
+        let _ = self.answers.try_push(UNANSWERED);
         Ok(())
     }
 }

@@ -2,9 +2,9 @@
 #![tactic(auto)]
 
 use desk::Desk;
-use page::{Loss, say_failure};
+use page::{Loss, Page, say_failure};
 use source::Source;
-use std::io;
+use std::fs::File;
 use std::process::ExitCode;
 use std::rt::Env;
 use stop::Stop;
@@ -30,26 +30,25 @@ fn replay(rt: &HostRuntime, source: &mut Source, desk: &mut Desk) -> Result<(), 
 }
 
 // The status is 141 where whoever reads the output wants no more, as of a program that the system ends for it.
-fn replay_file(rt: &HostRuntime, path: &[u8]) -> io::Result<ExitCode> {
-    let file = source::open(rt, path)?;
-    let mut source = Source::new(rt.alloc(), file)?;
-    let mut desk = Desk::new(rt.alloc(), page::page(rt.alloc(), rt.stdout())?);
+fn replay_file(rt: &HostRuntime, file: File, path: &[u8]) -> ExitCode {
+    let mut source = Source::new(file);
+    let mut desk = Desk::new(Page::new(rt.stdout()));
     match replay(rt, &mut source, &mut desk) {
         Ok(()) => {}
         Err(Stop::UnreadableRun(error)) => say_failure(rt.alloc(), rt.stderr(), path, error),
         Err(stop) => {
             let line = source.line();
             let _ = eprintln!(rt; "line {line}: {stop}");
-            desk.tell_stop(line)?;
+            desk.tell_stop(line);
         }
     }
-    desk.flush()?;
+    desk.flush();
     match desk.loss() {
-        None => Ok(ExitCode::SUCCESS),
-        Some(Loss::Unread) => Ok(ExitCode::from(141)),
+        None => ExitCode::SUCCESS,
+        Some(Loss::Unread) => ExitCode::from(141),
         Some(Loss::Unwritten) => {
             let _ = eprintln!(rt; "cannot write the output");
-            Ok(ExitCode::SUCCESS)
+            ExitCode::SUCCESS
         }
     }
 }
@@ -63,8 +62,12 @@ fn main(rt: HostRuntime) -> ExitCode {
         return ExitCode::SUCCESS;
     }
     let path = &path[..length];
-    replay_file(&rt, path).unwrap_or_else(|error| {
-        say_failure(rt.alloc(), rt.stderr(), path, error);
-        ExitCode::SUCCESS
-    })
+    // Opened here, as `replay_file` has the room for a run on its stack, which a file that cannot be opened does not need.
+    match source::open(&rt, path) {
+        Ok(file) => replay_file(&rt, file, path),
+        Err(error) => {
+            say_failure(rt.alloc(), rt.stderr(), path, error);
+            ExitCode::SUCCESS
+        }
+    }
 }

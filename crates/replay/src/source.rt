@@ -1,11 +1,10 @@
 // Files: the run file in pieces, and a ROM.
-ghost use Rattle.std.specs.Prelude.{◌≡◌, ◌≤◌, length, vec_len, IfOk};
+ghost use Rattle.std.specs.Prelude.{◌≡◌, ◌≤◌, length};
 ghost use Rattle.replay.specs.Parts.{between, on_from};
-ghost use Rattle.replay.specs.declared.source.TheConstants.{LONGEST_ROM};
+ghost use Rattle.replay.specs.declared.source.TheConstants.{LONGEST_ROM, PIECE};
 
 use crate::stop::Stop;
 use lines::Line;
-use std::alloc::{AllocError, Global};
 use std::fs::{self, File};
 use std::io::{self, Error, ErrorKind, IsTerminal, Read, Stderr};
 use std::rt::Files;
@@ -20,8 +19,8 @@ const LONGEST_ROM: usize = 65536;
 #[derive(Drop)]
 pub struct Source {
     file: File,
-    // of one length for good, so that a read has nothing to clear first
-    text: Vec<u8>,
+    // an array, so that a read has nothing to clear first
+    text: [u8; PIECE],
     // the part of the text that is not yet obeyed
     from: usize,
     to: usize,
@@ -30,7 +29,7 @@ pub struct Source {
     // the number of the line at hand
     line: u32,
     ghost ordered: { from ≤ to },
-    ghost inside: { to ≤ vec_len text },
+    ghost inside: { to ≤ PIECE },
 }
 
 // The bytes from a place to another. None where they are not all there, as its promise says, though they are here.
@@ -51,17 +50,17 @@ fn onward(from: usize, n: usize, end: usize) -> usize
 }
 
 impl Source {
-    pub fn new(alloc: Global, file: File) -> Result<Source, AllocError>
-        ensures { IfOk result (λ source. source.line ≡ 0) }
+    pub fn new(file: File) -> Source
+        ensures { result.line ≡ 0 }
     {
-        Ok(Source {
+        Source {
             file,
-            text: vec![in alloc; 0; PIECE]?,
+            text: [0; PIECE],
             from: 0,
             to: 0,
             is_over: false,
             line: 0,
-        })
+        }
     }
 
     pub fn line(&self) -> u32
@@ -87,7 +86,7 @@ impl Source {
 
     // Steps over a line and gives it.
     fn pass(&mut self, length: usize, passed: usize) -> &[u8]
-        ensures line { result.now ≡ between self.old.text.items self.old.from (on_from self.old.from length self.old.to) }
+        ensures line { result.now ≡ between self.old.text self.old.from (on_from self.old.from length self.old.to) }
     {
         let from = self.from;
         let to = onward(from, length, self.to);

@@ -1,9 +1,5 @@
 // Why a run stops before its file ends.
-ghost use Rattle.std.specs.Prelude.{◌≡◌};
-ghost use Rattle.replay.specs.declared.stop.Stop.TheVariants.{OutOfMemory};
-
 use runfile::Mistake;
-use std::alloc::{AllocError, AllocFailed};
 use std::io;
 use thiserror::Error;
 
@@ -21,29 +17,7 @@ pub enum Stop {
     LongRom,
     #[error("line of more than 4096 bytes")]
     LongLine,
-    #[error("out of memory")]
-    OutOfMemory,
-    // Output keeps its failures to itself, so that no write to a page comes to this.
-    #[error("{0}")]
-    Unwritable(#[from] io::Error),
     // The run file itself, and not what a line says.
     #[error("{0}")]
     UnreadableRun(io::Error),
-}
-
-// By hand, so that a promise can tell want of memory from the other reasons.
-impl From<AllocError> for Stop {
-    ghost from_gives = { λ _ stop. stop ≡ OutOfMemory };
-
-    fn from(_error: AllocError) -> Stop {
-        Stop::OutOfMemory
-    }
-}
-
-impl<T: Drop> From<AllocFailed<T>> for Stop {
-    ghost from_gives = { λ _ stop. stop ≡ OutOfMemory };
-
-    fn from(_error: AllocFailed<T>) -> Stop {
-        Stop::OutOfMemory
-    }
 }
