@@ -93,6 +93,7 @@ impl Page {
     // A text for which there is no room begins the next page; one that is longer than a page is written at once.
     pub fn write(&mut self, text: &[u8])
         ensures on { array_vec_len self.old.text + length text.now ≤ CAPACITY → self.new.text.items ≡ self.old.text.items ++ text.now }
+        ensures kept { array_vec_len self.old.text + length text.now ≤ CAPACITY → self.new.output ≡ self.old.output }
         ensures next { CAPACITY < array_vec_len self.old.text + length text.now → length text.now ≤ CAPACITY → self.new.text.items ≡ text.now }
         ensures none { CAPACITY < length text.now → self.new.text.items ≡ [] }
     {
